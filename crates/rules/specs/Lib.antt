@@ -1,0 +1,14 @@
+pub mod Lists
+pub mod Quantities
+pub mod Log
+pub mod Prints
+pub mod Lines
+pub mod Place
+pub mod Entering
+pub mod Calls
+pub mod Tick
+pub mod Refusals
+pub mod Answers
+pub mod Sound
+pub mod Demand
+pub mod Points

@@ -1,0 +1,139 @@
+-- 01, Worked points: the starred ones, what the named misreadings get wrong, and the listing, as one claim over one table.
+-- Letters p, q, r, s, t are the keys (1, 1) to (5, 5); start is 0.
+use mathlib.Core.Path.{_≡_}
+use mathlib.Core.List.{List, [], _∷_, _++_, map}
+use mathlib.Core.Bool.{false}
+use Prim.Native.Nat.{ℕ}
+use Rattle.rules.specs.declared.Stamp.the-variants as Stamp
+use Rattle.rules.specs.declared.Limits.{Limits}
+use Rattle.rules.specs.declared.Item.the-variants as Item
+use Rattle.rules.specs.declared.Expired.{Expired}
+use Rattle.rules.specs.declared.Expired.the-variants as Expired
+use Rattle.rules.specs.Lists.{Each}
+use Rattle.rules.specs.Quantities.{key}
+use Rattle.rules.specs.Lines.{Line, Pending, InLine, Market, fresh, lineOf, connAt}
+use Rattle.rules.specs.Calls.{Answer, done, apply, duplicate, held, diverged, failed, gone, rebuild, Outcome, refused, did}
+use Rattle.rules.specs.Refusals.{Call, Subscribe, Snapshot, BookEvent, Print, Drop, Tick, step}
+use Rattle.rules.specs.Demand.{marketAfter, after}
+
+-- what a point shows: a call's answer with its records (connection, number, times) and reports; a line; the log's first number
+pub data Shown : Type 0 where
+  refusal : ℕ → Shown
+  answer : Answer → List (ℕ × ℕ × ℕ) → List Expired → Shown
+  line : Line → Shown
+  base : ℕ → Shown
+
+abbrev pub shown : Outcome → Shown
+shown (refused n) = refusal n
+shown (did a rs w) = answer a (map (λ r. (r .conn, r .number, r .times)) (w .out)) rs
+
+-- what the last of some calls shows
+unfoldable pub lastOf : Market → List Call → Shown → Shown
+lastOf m [] s = s
+lastOf m (x ∷ xs) s = lastOf (marketAfter (step x m) m) xs (shown (step x m))
+
+unfoldable pub limits : ℕ → Limits
+limits h = record { L = 4; H = h; G = 128; C = 32; D = 128 }
+
+unfoldable pub event : ℕ → ℕ → Call
+event c k = BookEvent c (key k k) k 0 1000
+
+unfoldable pub snap : ℕ → ℕ → ℕ → Call
+snap c t now = Snapshot c t 0 now 1000
+
+unfoldable pub printOf : ℕ → ℕ → Call
+printOf c k = Print c (key k k) k 0 1000
+
+unfoldable pub tickAt : ℕ → List ℕ → Call
+tickAt now answers = Tick answers now 1000 4
+
+-- a subscription at time 0, with both snapshots at a time
+unfoldable pub joins : ℕ → ℕ → List Call
+joins c now = Subscribe c 0 ∷ snap c 0 now ∷ snap c 1 now ∷ []
+
+unfoldable pub pqrs : ℕ → List Call
+pqrs c = event c 1 ∷ event c 2 ∷ event c 3 ∷ event c 4 ∷ []
+
+-- a row of the table: what is shown, and what it should be. H is 16, or h
+abbrev pub Row : Type 0
+Row = Shown × Shown
+
+unfoldable pub saysWith : ℕ → List Call → Shown → Row
+saysWith h xs s = (lastOf (fresh (limits h) 0) xs (refusal 0), s)
+
+unfoldable pub says : List Call → Shown → Row
+says xs s = saysWith 16 xs s
+
+unfoldable pub leaves : List Call → ℕ → Line → Row
+leaves xs c l = let m = after (fresh (limits 16) 0) xs in (line ((connAt (lineOf c m) m) .line), line l)
+
+unfoldable pub bases : List Call → ℕ → Row
+bases xs n = (base ((after (fresh (limits 16) 0) xs) .log .base), base n)
+
+-- 1 in line; 2 in line by a quiet tick at 1,000
+unfoldable pub two : List Call
+two = joins 1 0 ++ joins 2 0 ++ (tickAt 1000 (0 ∷ 1 ∷ []) ∷ [])
+
+-- 2 pending with pqrs, 1 waiting with a snapshot and pqrs, nobody in line any more
+unfoldable pub deserted : List Call
+deserted = joins 3 0 ++ joins 2 0 ++ pqrs 2 ++ (Subscribe 1 0 ∷ snap 1 0 0 ∷ []) ++ pqrs 1 ++ (Subscribe 3 0 ∷ [])
+
+unfoldable pub points : List Row
+points =
+    -- log pqrs, pending holds pqr: held; then s: duplicate, next 4
+    says (joins 1 0 ++ pqrs 1 ++ joins 2 0 ++ (event 2 1 ∷ event 2 2 ∷ event 2 3 ∷ [])) (answer held [] [])
+    ∷ says (joins 1 0 ++ pqrs 1 ++ joins 2 0 ++ pqrs 2) (answer duplicate [] [])
+    ∷ leaves (joins 1 0 ++ pqrs 1 ++ joins 2 0 ++ pqrs 2) 2 (InLine 4 false false)
+    -- log pqrspqrs, pending pqrs: held, since two places count; then t: number 8
+    ∷ says (joins 1 0 ++ pqrs 1 ++ pqrs 1 ++ joins 2 0 ++ pqrs 2) (answer held [] [])
+    ∷ says (joins 1 0 ++ pqrs 1 ++ pqrs 1 ++ joins 2 0 ++ pqrs 2 ++ (event 2 5 ∷ [])) (answer apply ((2, 8, 1) ∷ []) [])
+    -- log age 10,000 stays, 10,001 goes
+    ∷ bases (joins 1 0 ++ (event 1 1 ∷ tickAt 10000 (0 ∷ []) ∷ [])) 0
+    ∷ bases (joins 1 0 ++ (event 1 1 ∷ tickAt 10001 (0 ∷ []) ∷ [])) 1
+    -- since-age 9,999 waits, 10,000 ends
+    ∷ says (Subscribe 1 0 ∷ tickAt 9999 (0 ∷ []) ∷ []) (answer done [] [])
+    ∷ says (Subscribe 1 0 ∷ tickAt 10000 (0 ∷ []) ∷ []) (answer done [] (Expired.Failed 1 ∷ []))
+    -- quiet 999 no, 1,000 yes
+    ∷ leaves (joins 1 0 ++ joins 2 0 ++ (tickAt 999 (0 ∷ 1 ∷ []) ∷ [])) 2 (Pending (Item.Snapshot 0 0 ∷ Item.Snapshot 1 0 ∷ []) (Stamp.At 0) 0)
+    ∷ leaves two 2 (InLine 0 false false)
+    -- in line, two and three copies of a print: three put out
+    ∷ says (two ++ (printOf 1 9 ∷ [])) (answer apply ((1, 0, 1) ∷ []) [])
+    ∷ says (two ++ (printOf 1 9 ∷ printOf 1 9 ∷ [])) (answer apply ((1, 0, 1) ∷ []) [])
+    ∷ says (two ++ (printOf 1 9 ∷ printOf 1 9 ∷ printOf 2 9 ∷ [])) (answer duplicate [] [])
+    ∷ says (two ++ (printOf 1 9 ∷ printOf 1 9 ∷ printOf 2 9 ∷ printOf 2 9 ∷ [])) (answer duplicate [] [])
+    ∷ says (two ++ (printOf 1 9 ∷ printOf 1 9 ∷ printOf 2 9 ∷ printOf 2 9 ∷ printOf 2 9 ∷ [])) (answer apply ((2, 0, 1) ∷ []) [])
+    -- print while Waiting, subscribe again, snapshot 0 with nobody in line, print: times 2
+    ∷ says (Subscribe 1 0 ∷ printOf 1 9 ∷ Subscribe 1 0 ∷ snap 1 0 0 ∷ printOf 1 9 ∷ []) (answer apply ((1, 0, 2) ∷ []) [])
+    -- a print key untouched for 30,000 stays, for 30,001 goes
+    ∷ says (two ++ (printOf 1 9 ∷ tickAt 30000 (0 ∷ 0 ∷ []) ∷ printOf 2 9 ∷ [])) (answer duplicate [] [])
+    ∷ says (two ++ (printOf 1 9 ∷ tickAt 30001 (0 ∷ 0 ∷ []) ∷ printOf 2 9 ∷ [])) (answer apply ((2, 0, 1) ∷ []) [])
+    -- H - 1 items: held; H: failed
+    ∷ saysWith 2 (Subscribe 1 0 ∷ event 1 1 ∷ event 1 2 ∷ []) (answer held [] [])
+    ∷ saysWith 2 (Subscribe 1 0 ∷ event 1 1 ∷ event 1 2 ∷ event 1 3 ∷ []) (answer failed [] [])
+    -- snapshots of equal time: the lower connection
+    ∷ says (joins 1 0 ++ joins 3 5 ++ joins 2 5 ++ (Drop 1 6 1000 ∷ [])) (answer rebuild ((2, 0, 1) ∷ (2, 0, 1) ∷ []) [])
+    -- no sweep after a take-over by snapshot: 2, whose pqrs now fit the log, stays pending
+    ∷ says (deserted ++ (snap 1 1 0 ∷ [])) (answer apply ((1, 0, 1) ∷ (1, 0, 1) ∷ (1, 1, 1) ∷ (1, 2, 1) ∷ (1, 3, 1) ∷ (1, 0, 1) ∷ []) [])
+    ∷ leaves (deserted ++ (snap 1 1 0 ∷ [])) 2
+    (Pending (Item.Snapshot 0 0 ∷ Item.Snapshot 1 0 ∷ Item.Event (key 1 1) 1 ∷ Item.Event (key 2 2) 2 ∷ Item.Event (key 3 3) 3 ∷ Item.Event (key 4 4) 4 ∷ []) (Stamp.At 0) 0)
+    -- and a sweep after the next event: 2 lines up
+    ∷ leaves (deserted ++ (snap 1 1 0 ∷ event 1 5 ∷ [])) 2 (InLine 4 false false)
+    -- counts outlive a drop
+    ∷ says (Subscribe 1 0 ∷ printOf 1 9 ∷ Drop 1 0 1000 ∷ Subscribe 1 0 ∷ snap 1 0 0 ∷ printOf 1 9 ∷ []) (answer apply ((1, 0, 2) ∷ []) [])
+    -- at 10,000 a Waiting line that holds a snapshot fails; a Pending one with a snapshot time rebuilds
+    ∷ says (joins 1 0 ++ (Subscribe 2 0 ∷ snap 2 0 0 ∷ tickAt 10000 (0 ∷ 0 ∷ []) ∷ [])) (answer done [] (Expired.Failed 2 ∷ []))
+    ∷ says (joins 1 0 ++ joins 2 0 ++ (tickAt 10000 (0 ∷ 0 ∷ []) ∷ [])) (answer done ((2, 0, 1) ∷ (2, 0, 1) ∷ []) (Expired.Rebuild 2 2 ∷ []))
+    -- a second connection's copy; another key at the same number
+    ∷ says (two ++ (event 1 1 ∷ event 2 1 ∷ [])) (answer duplicate [] [])
+    ∷ says (two ++ (event 1 1 ∷ event 2 2 ∷ [])) (answer diverged [] [])
+    -- the listing
+    ∷ says (Subscribe 1 0 ∷ []) (answer done [] [])
+    ∷ says (Subscribe 1 0 ∷ snap 1 0 0 ∷ []) (answer apply ((1, 0, 1) ∷ []) [])
+    ∷ says (Subscribe 1 0 ∷ snap 1 0 0 ∷ event 1 7 ∷ []) (answer apply ((1, 0, 1) ∷ []) [])
+    ∷ says (Subscribe 1 0 ∷ snap 1 0 0 ∷ event 1 7 ∷ printOf 1 9 ∷ []) (answer apply ((1, 0, 1) ∷ []) [])
+    ∷ says (Subscribe 1 0 ∷ snap 1 0 0 ∷ event 1 7 ∷ printOf 1 9 ∷ Drop 1 0 1000 ∷ []) (answer gone [] [])
+    ∷ []
+
+-- each row shows what it should
+abbrev pub WorkedPoints : Type 0
+WorkedPoints = Each (λ (x : Row). x .0 ≡ x .1) points

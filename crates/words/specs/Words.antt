@@ -1,0 +1,25 @@
+-- Lists of words: parts that are lent and come back, lists made from an index, words moved.
+-- The forms are those of the borrow checker, so that no goal is rewritten to meet a law.
+use mathlib.Core.Path.{_≡_}
+use mathlib.Core.List.{List, [], _∷_, _++_}
+use Prim.Native.Nat.{ℕ, zero, suc, _+_, _-_, _≤_, _<_}
+use lib.ListN.{length, take, drop, getD}
+
+-- what `&w[a..e]` lends
+abbrev pub part : ℕ → ℕ → List ℕ → List ℕ
+part a e w = take (e - a) (drop a w)
+
+-- w after `&mut w[a..e]` has come back as ys
+abbrev pub back : ℕ → ℕ → List ℕ → List ℕ → List ℕ
+back a e ys w = take a w ++ (ys ++ drop (e - a) (drop a w))
+
+-- f 0, f 1, .., f (n - 1)
+abbrev pub tab : {A : Type 0} → ℕ → (ℕ → A) → List A
+tab zero f = []
+tab (suc n) f = f 0 ∷ tab n (λ i. f (suc i))
+
+-- w is v with i of its words from `from` at the front
+pub record Moved (from : ℕ) (v w : List ℕ) (i : ℕ) : Type 0 where
+  pub size : length w ≡ length v
+  pub done : (j : ℕ) → j < i → getD w j 0 ≡ getD v (from + j) 0
+  pub rest : (j : ℕ) → i ≤ j → getD w j 0 ≡ getD v j 0

@@ -1,0 +1,29 @@
+// Words of a lent store: shared laws are in specs/, and the moves that several areas use are here.
+ghost use Prim.Native.Nat.{ℕ, _+_, _≤_};
+ghost use lib.ListN.{length};
+ghost use mathlib.Core.Path.{_≡_};
+ghost use mathlib.Core.List.{List, [], _∷_};
+ghost use Rattle.words.specs.Words.{Moved};
+
+// Moves the n words from `from` to the front.
+pub fn move_down(s: &mut [u64], from: usize, n: usize)
+    requires { ⌜ from + n ≤ length (now s) ⌝ }
+    ensures { λ r. ⌜ Moved from (now (s .entry)) (now (s .exit)) n ⌝ }
+{
+    let mut i = 0;
+    while i < n {
+        s[i] = s[from + i];
+        i += 1;
+    }
+}
+
+// Writes a row of four words.
+pub fn put4(row: &mut [u64], x: u64, y: u64, z: u64, u: u64)
+    requires { ⌜ length (now row) ≡ 4 ⌝ }
+    ensures { λ r. ⌜ now (row .exit) ≡ x ∷ y ∷ z ∷ u ∷ [] ⌝ }
+{
+    row[0] = x;
+    row[1] = y;
+    row[2] = z;
+    row[3] = u;
+}
