@@ -1,0 +1,4 @@
+pub mod Tab
+pub mod Reading
+mod Changes
+pub mod Search
