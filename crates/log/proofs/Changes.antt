@@ -11,10 +11,9 @@ use Rattle.rules.specs.Log.{push, clear, prune, old}
 use Rattle.rules.specs.declared.Stamp.the-variants as Stamp
 use Rattle.words.specs.Words.{part, back, Moved}
 use Rattle.words.proofs.Parts.{Loan, part-length, getD-part, length-back, back-below, back-in, back-above}
-use Rattle.words.proofs.Tab.{tab-ext, tab-snoc, length-tab}
+use Rattle.words.proofs.Tab.{tab-ext, tab-snoc, length-tab, tab-from}
 use Rattle.log.specs.Log.{logOf, Fit}
 use Rattle.log.specs.declared.Head.{Head}
-use Rattle.log.proofs.Tab.{tab-from}
 use Rattle.log.proofs.Reading.{entryAt}
 
 -- the area after a push

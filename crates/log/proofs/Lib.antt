@@ -1,4 +1,3 @@
-pub mod Tab
 pub mod Reading
 mod Changes
 pub mod Search

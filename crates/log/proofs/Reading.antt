@@ -8,11 +8,10 @@ use lib.ListN.{length, getD}
 use Rattle.rules.specs.Quantities.{Key}
 use Rattle.rules.specs.Log.{keys, end}
 use Rattle.words.specs.Words.{tab, part}
-use Rattle.words.proofs.Tab.{length-tab, tab-ext}
+use Rattle.words.proofs.Tab.{length-tab, tab-ext, map-tab}
 use Rattle.words.proofs.Parts.{getD-part}
 use Rattle.log.specs.Log.{keyIn, keysIn, logOf, Fit}
 use Rattle.log.specs.declared.Head.{Head}
-use Rattle.log.proofs.Tab.{map-tab}
 
 -- the i-th entry of an area
 abbrev pub entryAt : ℕ → List ℕ → ℕ → Key × ℕ

@@ -13,13 +13,12 @@ use Rattle.rules.specs.Quantities.{Key, noKey, age, logKeep, same}
 use Rattle.rules.specs.Log.{keys, keyAt, old}
 use Rattle.rules.specs.Place.{fits}
 use Rattle.words.specs.Words.{tab}
-use Rattle.words.proofs.Tab.{getD-tab}
+use Rattle.words.proofs.Tab.{getD-tab, tab-from}
 use Rattle.log.specs.Log.{keyIn, keysIn, logOf, Fit}
 use Rattle.log.specs.Answers.{keyAnswer, matchAnswer}
 use Rattle.log.specs.declared.KeyAt.the-variants as KeyAt
 use Rattle.log.specs.declared.Matched.the-variants as Matched
 use Rattle.log.specs.declared.Head.{Head}
-use Rattle.log.proofs.Tab.{tab-from}
 use Rattle.log.proofs.Reading.{entryAt, log-keys, log-length}
 
 -- the key of a number

@@ -7,7 +7,7 @@ use native.Mathlib.Omega.{arith}
 use lib.Dec.{ltb, eqb}
 use Rattle.rules.specs.Quantities.{Key, key, same}
 use Rattle.rules.specs.Prints.{before}
-use Rattle.rules.proofs.Tests.{ff≢tt, ltb-true, ltb-false, eqb-true, eqb-false, eqb-same, lt-ltb, either, and-true-left, and-true-right}
+use Rattle.rules.proofs.Tests.{ff≢tt, ltb-true, ltb-false, eqb-true, eqb-false, eqb-same, lt-ltb, either, untrue, and-true-left, and-true-right, or-false-left}
 
 pub same-true : (a b : Key) → same a b ≡ true → a ≡ b
 same-true a b e =
@@ -62,15 +62,11 @@ before-trans a b c p q = before-is a c (go (before-says a b p) (before-says b c 
     go (level e h) (level f k) = level (e ∙ f) (omega arith)
 
 pub before-itself : (a : Key) → before a a ≡ false
-before-itself a = go (either (before a a))
+before-itself a = untrue (before a a) (λ e. no (before-says a a e))
   where
     no : Ordered a a → ⊥
     no (higher h) = omega arith
     no (level e h) = omega arith
-
-    go : (before a a ≡ true) ⊎ (before a a ≡ false) → before a a ≡ false
-    go (inl e) = absurd (no (before-says a a e))
-    go (inr e) = e
 
 -- of two keys that are not the same one comes before the other
 pub before-total : (a b : Key) → before a b ≡ false → same a b ≡ false → before b a ≡ true
@@ -131,25 +127,34 @@ pairBefore-trans p q r a b = pairBefore-is p r (go (pairBefore-says p q a) (pair
     go (level e h) (higher k) = higher (subst (λ z. before z (r .0) ≡ true) (sym e) k)
     go (level e h) (level f k) = level (e ∙ f) (omega arith)
 
+pub pairBefore-itself : (p : Key × ℕ) → pairBefore p p ≡ false
+pairBefore-itself p = untrue (pairBefore p p) (λ e. no (pairBefore-says p p e))
+  where
+    no : OrderedPair p p → ⊥
+    no (higher h) = ff≢tt (before-itself (p .0)) h
+    no (level e h) = omega arith
+
 pub pairBefore-total : (p q : Key × ℕ) → pairBefore p q ≡ false → samePair p q ≡ false → pairBefore q p ≡ true
-pairBefore-total p q a b = pairBefore-is q p (go (either (before (q .0) (p .0))) (either (same (p .0) (q .0))))
+pairBefore-total p q a b = pairBefore-is q p (go (either (same (p .0) (q .0))) (either (ltb (q .1) (p .1))) (either (ltb (p .1) (q .1))))
   where
     no : OrderedPair p q → ⊥
     no o = ff≢tt a (pairBefore-is p q o)
 
-    apart : before (q .0) (p .0) ≡ false → same (p .0) (q .0) ≡ false → ⊥
-    apart h e = no (higher (before-total (q .0) (p .0) h (turn (either (same (q .0) (p .0))))))
-      where
-        turn : (same (q .0) (p .0) ≡ true) ⊎ (same (q .0) (p .0) ≡ false) → same (q .0) (p .0) ≡ false
-        turn (inl s) = absurd (ff≢tt e (subst (λ z. same z (q .0) ≡ true) (same-true (q .0) (p .0) s) (same-itself (q .0))))
-        turn (inr s) = s
+    go : (same (p .0) (q .0) ≡ true) ⊎ (same (p .0) (q .0) ≡ false) → (ltb (q .1) (p .1) ≡ true) ⊎ (ltb (q .1) (p .1) ≡ false)
+        → (ltb (p .1) (q .1) ≡ true) ⊎ (ltb (p .1) (q .1) ≡ false) → OrderedPair q p
+    go (inr e) y z = higher (before-total (p .0) (q .0) (or-false-left (before (p .0) (q .0)) (same (p .0) (q .0) && ltb (p .1) (q .1)) a) e)
+    go (inl e) (inl y) z = level (sym (same-true (p .0) (q .0) e)) (ltb-true y)
+    go (inl e) (inr y) (inl z) = absurd (no (level (same-true (p .0) (q .0) e) (ltb-true z)))
+    go (inl e) (inr y) (inr z) =
+        let u : p .1 ≤ q .1 = ltb-false y in
+        let v : q .1 ≤ p .1 = ltb-false z in
+        let n : p .1 ≡ q .1 = omega arith in
+        absurd (ff≢tt b (ap (λ (x : Bool). x && eqb (p .1) (q .1)) e ∙ ap (λ (x : ℕ). eqb x (q .1)) n ∙ eqb-same (q .1)))
 
-    conns : p .0 ≡ q .0 → (ltb (q .1) (p .1) ≡ true) ⊎ (ltb (q .1) (p .1) ≡ false) → (eqb (p .1) (q .1) ≡ true) ⊎ (eqb (p .1) (q .1) ≡ false) → OrderedPair q p
-    conns e (inl h) y = level (sym e) (ltb-true h)
-    conns e (inr h) (inl y) = absurd (ff≢tt b (rw (e, same-itself (q .0)) y))
-    conns e (inr h) (inr y) = absurd (no (level e (let u : p .1 ≤ q .1 = ltb-false h in let v : p .1 ≢ q .1 = eqb-false y in omega arith)))
-
-    go : (before (q .0) (p .0) ≡ true) ⊎ (before (q .0) (p .0) ≡ false) → (same (p .0) (q .0) ≡ true) ⊎ (same (p .0) (q .0) ≡ false) → OrderedPair q p
-    go (inl h) y = higher h
-    go (inr h) (inl s) = conns (same-true (p .0) (q .0) s) (either (ltb (q .1) (p .1))) (either (eqb (p .1) (q .1)))
-    go (inr h) (inr s) = absurd (apart h s)
+-- a key before that of a pair is before those of all pairs behind it
+pub before-climbs : (k : Key) (p q : Key × ℕ) → before k (p .0) ≡ true → pairBefore p q ≡ true → before k (q .0) ≡ true
+before-climbs k p q h e = go (pairBefore-says p q e)
+  where
+    go : OrderedPair p q → before k (q .0) ≡ true
+    go (higher l) = before-trans k (p .0) (q .0) h l
+    go (level l m) = subst (λ (x : Key). before k x ≡ true) l h

@@ -109,3 +109,7 @@ lt-leb m n h = go (either (leb m n))
     go : (leb m n ≡ true) ⊎ (leb m n ≡ false) → leb m n ≡ false
     go (inl e) = absurd (let k : m ≤ n = leb-true e in omega arith)
     go (inr e) = e
+
+pub untrue : (b : Bool) → (b ≡ true → ⊥) → b ≡ false
+untrue true h = absurd (h refl)
+untrue false h = refl

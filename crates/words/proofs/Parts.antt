@@ -72,11 +72,19 @@ module _ (a e : ℕ) (ys w : List ℕ) (h : Loan a e ys w) where
   pub part-after : (b f : ℕ) → e ≤ b → f ≤ length w → part b f (back a e ys w) ≡ part b f w
   part-after b f l m = part-ext b f (back a e ys w) w length-back m (λ i n o. back-above i (omega arith))
 
--- a row of four words, written whole
-pub four : (v : List ℕ) (x y z u : ℕ) → length v ≡ 4 → set (set (set (set v 0 x) 1 y) 2 z) 3 u ≡ x ∷ y ∷ z ∷ u ∷ []
-four [] x y z u h = absurd (omega arith)
-four (a ∷ []) x y z u h = absurd (omega arith)
-four (a ∷ b ∷ []) x y z u h = absurd (omega arith)
-four (a ∷ b ∷ c ∷ []) x y z u h = absurd (omega arith)
-four (a ∷ b ∷ c ∷ d ∷ []) x y z u h = refl
-four (a ∷ b ∷ c ∷ d ∷ e ∷ l) x y z u h = absurd (omega arith)
+-- a row that is written whole, word by word: as many sets as it has words
+unfoldable pub written : ℕ → List ℕ → List ℕ → List ℕ
+written i [] w = w
+written i (x ∷ xs) w = written (suc i) xs (set w i x)
+
+written-cons : (a : ℕ) (xs w : List ℕ) (i : ℕ) → written (suc i) xs (a ∷ w) ≡ a ∷ written i xs w
+unfolding written
+written-cons a [] w i = refl
+written-cons a (x ∷ xs) w i = written-cons a xs (set w i x) (suc i)
+
+pub written-all : (xs w : List ℕ) → length w ≡ length xs → written 0 xs w ≡ xs
+unfolding written
+written-all [] [] h = refl
+written-all [] (a ∷ w) h = absurd (omega arith)
+written-all (x ∷ xs) [] h = absurd (omega arith)
+written-all (x ∷ xs) (a ∷ w) h = written-cons x xs w 0 ∙ ap {B = List ℕ} (λ l. x ∷ l) (written-all xs w (omega arith))

@@ -1,11 +1,12 @@
 -- Laws of lists made from an index.
 use mathlib.Core.Path.{_≡_, refl, sym, ap, _∙_, subst}
-use mathlib.Core.List.{List, [], _∷_, _++_}
+use mathlib.Core.List.{List, [], _∷_, _++_, map}
 use Prim.Native.Nat.{ℕ, zero, suc, _+_, _-_, _≤_, _<_, zero-le, suc-le-suc}
-use native.Mathlib.Nat.{le-of-suc-le-suc, not-suc-le-zero, zero-add, add-zero, suc-add, add-suc}
+use native.Mathlib.Nat.{le-of-suc-le-suc, not-suc-le-zero, zero-add, suc-add, sub-zero, zero-sub, suc-sub-suc}
 use native.Mathlib.Numerals.{add-one}
 use native.Mathlib.Omega.{arith}
 use lib.ListN.{length, take, drop, getD, set}
+use lib.Seq.{drop-cons}
 use Rattle.words.specs.Words.{tab}
 
 pub length-tab : {A : Type 0} (n : ℕ) (f : ℕ → A) → length (tab n f) ≡ n
@@ -29,10 +30,21 @@ tab-suc (suc n) f = ap (λ (l : List _). f 0 ∷ l) (tab-suc n (λ i. f (suc i))
 pub tab-snoc : {A : Type 0} (n : ℕ) (f : ℕ → A) → tab (n + 1) f ≡ tab n f ++ (f n ∷ [])
 tab-snoc n f = rw add-one (tab-suc n f)
 
--- the rows past the k-th
-pub drop-tab : {A : Type 0} (k n : ℕ) (f : ℕ → A) → drop k (tab (k + n) f) ≡ tab n (λ i. f (k + i))
-drop-tab zero n f = rw zero-add (tab-ext n f (λ i. f (0 + i)) (λ i l. rw zero-add))
-drop-tab (suc k) n f = rw suc-add (drop-tab k n (λ i. f (suc i)) ∙ tab-ext n (λ i. f (suc (k + i))) (λ i. f (suc k + i)) (λ i l. rw suc-add))
+pub map-tab : {A B : Type 0} (f : A → B) (n : ℕ) (r : ℕ → A) → map f (tab n r) ≡ tab n (λ i. f (r i))
+map-tab f zero r = refl
+map-tab f (suc n) r = ap {B = List _} (λ l. f (r 0) ∷ l) (map-tab f n (λ i. r (suc i)))
+
+-- the rows from the k-th on, none where there are not so many
+pub tab-from : {A : Type 0} (k n : ℕ) (f : ℕ → A) → drop k (tab n f) ≡ tab (n - k) (λ i. f (k + i))
+tab-from zero n f = rw sub-zero (tab-ext n f (λ i. f (0 + i)) (λ i l. rw zero-add))
+tab-from (suc k) zero f = rw zero-sub
+tab-from (suc k) (suc n) f = rw suc-sub-suc (tab-from k n (λ i. f (suc i)) ∙ tab-ext (n - k) (λ i. f (suc (k + i))) (λ i. f (suc k + i)) (λ i l. rw suc-add))
+
+-- the i-th row, and those behind it
+pub drop-tab-cons : {A : Type 0} (n i : ℕ) (f : ℕ → A) → i < n → drop i (tab n f) ≡ f i ∷ drop (i + 1) (tab n f)
+drop-tab-cons n i f h =
+    let l : i < length (tab n f) = rw length-tab h in
+    rw (drop-cons (tab n f) i (f i) l, getD-tab n f i (f i) h, add-one)
 
 -- one row is new, and the others are as they were
 pub tab-set : {A : Type 0} (n : ℕ) (f g : ℕ → A) (i : ℕ) (a : A) → (i < n → g i ≡ a) → ((j : ℕ) → j < n → (j ≡ i → ⊥) → g j ≡ f j) → tab n g ≡ set (tab n f) i a

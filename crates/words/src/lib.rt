@@ -27,3 +27,28 @@ pub fn put4(row: &mut [u64], x: u64, y: u64, z: u64, u: u64)
     row[2] = z;
     row[3] = u;
 }
+
+// Writes a row of three words.
+pub fn put3(row: &mut [u64], x: u64, y: u64, z: u64)
+    requires { ⌜ length (now row) ≡ 3 ⌝ }
+    ensures { λ r. ⌜ now (row .exit) ≡ x ∷ y ∷ z ∷ [] ⌝ }
+{
+    row[0] = x;
+    row[1] = y;
+    row[2] = z;
+}
+
+// Writes a row of eight words.
+pub fn put8(row: &mut [u64], a: u64, b: u64, c: u64, d: u64, e: u64, f: u64, g: u64, h: u64)
+    requires { ⌜ length (now row) ≡ 8 ⌝ }
+    ensures { λ r. ⌜ now (row .exit) ≡ a ∷ b ∷ c ∷ d ∷ e ∷ f ∷ g ∷ h ∷ [] ⌝ }
+{
+    row[0] = a;
+    row[1] = b;
+    row[2] = c;
+    row[3] = d;
+    row[4] = e;
+    row[5] = f;
+    row[6] = g;
+    row[7] = h;
+}

@@ -1,0 +1,28 @@
+use borrow.Author.Needs.{needs}
+use Rattle.lines.proofs.Line.due.Statement.{statement}
+use Rattle.lines.proofs.Line.due.Tie as tie
+
+returns : tie.Need-returns
+returns c w = cc
+
+returns-2 : tie.Need-returns-2
+returns-2 c w = cc
+
+returns-3 : tie.Need-returns-3
+returns-3 c w = cc
+
+returns-4 : tie.Need-returns-4
+returns-4 c w = cc
+
+pub due-spec : {M : Type 1} → statement M
+due-spec =
+    tie.close
+    (tie.spec
+    (λ c. search needs)
+    (λ c. search needs)
+    (λ c. search needs)
+    (λ c. search needs)
+    returns
+    returns-2
+    returns-3
+    returns-4)

@@ -1,0 +1,4 @@
+pub mod Items
+mod Next
+mod Counting
+mod Search

@@ -1,0 +1,182 @@
+// A line's held items, and the place where a pending line's held events line up with the log.
+use rules::EventKey;
+use rules::Item;
+ghost use mathlib.Core.Path.{_≡_};
+ghost use mathlib.Core.Bool.{not};
+ghost use mathlib.Core.List.{[], _∷_, _++_};
+ghost use Prim.Native.Nat.{_+_, _*_, _≤_};
+ghost use lib.ListN.{length, drop};
+ghost use Rattle.rules.specs.Lists.{any, index, nil};
+ghost use Rattle.rules.specs.Lines.{events, eventKeys, isSnapshot, snapshotOf};
+ghost use Rattle.rules.specs.Place.{alignment as aligned};
+ghost use Rattle.log.specs.Log.{keysIn};
+ghost use Rattle.place.specs.Items.{itemIn, itemsIn, isEvent, placeOf, Room, Counted};
+
+// The kind word of an event; a snapshot's is one more than its token.
+const EVENT: u64 = 0;
+// Held events that match the log this many in a row make a place count.
+const ALIGN_RUN: usize = 4;
+
+pub enum Place {
+    // The held events from the j-th on are the log's from this number on.
+    At(usize, u64),
+    Nowhere,
+}
+
+// The i-th held item.
+pub fn item_at(items: &[u64], i: usize) -> Item
+    requires { ⌜ 4 * i + 4 ≤ length (now items) ⌝ }
+    ensures { λ r. ⌜ r ≡ itemIn (now (items .entry)) i ⌝ }
+{
+    let a = 4 * i;
+    let kind = items[a];
+    let message = items[a + 3];
+    if kind == EVENT {
+        Item::Event(EventKey(items[a + 1], items[a + 2]), message)
+    } else {
+        Item::Snapshot(kind - 1, message)
+    }
+}
+
+// Holds an item behind the first i.
+pub fn put_item(items: &mut [u64], i: usize, item: Item)
+    requires { ⌜ Room (now items) i item ⌝ }
+    ensures { λ r. ⌜ itemsIn (i + 1) (now (items .exit)) ≡ itemsIn i (now (items .entry)) ++ (item ∷ []) ⌝ }
+{
+    let a = 4 * i;
+    let e = a + 4;
+    match item {
+        Item::Snapshot(token, message) => {
+            words::put4(&mut items[a..e], token + 1, 0, 0, message);
+        }
+        Item::Event(key, message) => {
+            words::put4(&mut items[a..e], EVENT, key.0, key.1, message);
+        }
+    }
+}
+
+// The first item from `from` on that is an event; held where there is none.
+fn next_event(items: &[u64], held: usize, from: usize) -> usize
+    requires { ⌜ (4 * held ≤ length (now items)) × (from ≤ held) ⌝ }
+    ensures { λ r. ⌜ r ≡ from + index isEvent (drop from (itemsIn held (now (items .entry)))) ⌝ }
+{
+    let mut i = from;
+    while i < held {
+        if items[4 * i] == EVENT {
+            return i;
+        }
+        i += 1;
+    }
+    i
+}
+
+// Whether any event is held.
+pub fn holds_event(items: &[u64], held: usize) -> bool
+    requires { ⌜ 4 * held ≤ length (now items) ⌝ }
+    ensures { λ r. ⌜ r ≡ not (nil (events (itemsIn held (now (items .entry))))) ⌝ }
+{
+    next_event(items, held, 0) < held
+}
+
+// Whether any snapshot is held.
+pub fn holds_snapshot(items: &[u64], held: usize) -> bool
+    requires { ⌜ 4 * held ≤ length (now items) ⌝ }
+    ensures { λ r. ⌜ r ≡ any isSnapshot (itemsIn held (now (items .entry))) ⌝ }
+{
+    let mut i = 0;
+    while i < held {
+        if items[4 * i] != EVENT {
+            return true;
+        }
+        i += 1;
+    }
+    false
+}
+
+// Whether a snapshot of token t is held.
+pub fn holds_token(items: &[u64], held: usize, t: u64) -> bool
+    requires { ⌜ 4 * held ≤ length (now items) ⌝ }
+    ensures { λ r. ⌜ r ≡ any (snapshotOf t) (itemsIn held (now (items .entry))) ⌝ }
+{
+    let mut i = 0;
+    while i < held {
+        if let Item::Snapshot(token, _) = item_at(items, i) {
+            if token == t {
+                return true;
+            }
+            i += 1;
+        } else {
+            i += 1;
+        }
+    }
+    false
+}
+
+// Where the held events line up with the log: the one place that counts, if exactly one does.
+pub fn alignment(
+    keys: &[u64],
+    count: usize,
+    base: u64,
+    items: &[u64],
+    held: usize,
+    quiet: bool,
+) -> Place
+    requires { ⌜ Counted (now keys) count base (now items) held ⌝ }
+    ensures { λ r. ⌜ r ≡ placeOf base (aligned quiet (eventKeys (itemsIn held (now (items .entry)))) (keysIn count (now (keys .entry)))) ⌝ }
+{
+    if count == 0 {
+        return Place::Nowhere;
+    }
+    let first = next_event(items, held, 0);
+    if first >= held {
+        return Place::Nowhere;
+    }
+    let mut found = Place::Nowhere;
+    // The next candidate: the first held event at entry q; past the log's end the j-th, item x, at entry 0.
+    let mut q: usize = 0;
+    let mut x = next_event(items, held, first + 1);
+    let mut j: usize = 1;
+    'places: loop {
+        // This candidate: the held events from item i on, the cj-th and later, against the log from entry l on.
+        let mut i = first;
+        let mut l = q;
+        let mut cj: usize = 0;
+        if q < count {
+            q += 1;
+        } else {
+            if x >= held {
+                break 'places;
+            }
+            i = x;
+            l = 0;
+            cj = j;
+            x = next_event(items, held, x + 1);
+            j += 1;
+        }
+        let start = l;
+        while i < held {
+            if l >= count {
+                break;
+            }
+            if items[4 * i + 1] != keys[2 * l] {
+                continue 'places;
+            }
+            if items[4 * i + 2] != keys[2 * l + 1] {
+                continue 'places;
+            }
+            l += 1;
+            i = next_event(items, held, i + 1);
+        }
+        let run = l - start >= ALIGN_RUN;
+        let level = quiet & (l == count) & (i == held);
+        if !(run | level) {
+            continue 'places;
+        }
+        if let Place::At(_, _) = found {
+            found = Place::Nowhere;
+            break 'places;
+        }
+        found = Place::At(cj, base + start as u64);
+    }
+    found
+}
