@@ -61,17 +61,9 @@ impl Line {
         ensures { λ r. ⌜ ((w : List ℕ) → r ≡ isInLine (lineOf self w)) ⌝ }
     {
         match self {
-            Line::Waiting { items: _, since: _ } => false,
-            Line::Pending {
-                items: _,
-                snapshot: _,
-                since: _,
-            } => false,
-            Line::InLine {
-                next: _,
-                due0: _,
-                due1: _,
-            } => true,
+            Line::Waiting { .. } => false,
+            Line::Pending { .. } => false,
+            Line::InLine { .. } => true,
             Line::Failed => false,
         }
     }
@@ -80,17 +72,9 @@ impl Line {
         ensures { λ r. ⌜ ((w : List ℕ) → r ≡ isPending (lineOf self w)) ⌝ }
     {
         match self {
-            Line::Waiting { items: _, since: _ } => false,
-            Line::Pending {
-                items: _,
-                snapshot: _,
-                since: _,
-            } => true,
-            Line::InLine {
-                next: _,
-                due0: _,
-                due1: _,
-            } => false,
+            Line::Waiting { .. } => false,
+            Line::Pending { .. } => true,
+            Line::InLine { .. } => false,
             Line::Failed => false,
         }
     }
@@ -99,17 +83,9 @@ impl Line {
         ensures { λ r. ⌜ ((w : List ℕ) → r ≡ isFailed (lineOf self w)) ⌝ }
     {
         match self {
-            Line::Waiting { items: _, since: _ } => false,
-            Line::Pending {
-                items: _,
-                snapshot: _,
-                since: _,
-            } => false,
-            Line::InLine {
-                next: _,
-                due0: _,
-                due1: _,
-            } => false,
+            Line::Waiting { .. } => false,
+            Line::Pending { .. } => false,
+            Line::InLine { .. } => false,
             Line::Failed => true,
         }
     }
@@ -119,17 +95,9 @@ impl Line {
         ensures { λ r. ⌜ ((w : List ℕ) → r ≡ isDue (lineOf self w)) ⌝ }
     {
         match self {
-            Line::Waiting { items: _, since: _ } => false,
-            Line::Pending {
-                items: _,
-                snapshot: _,
-                since: _,
-            } => false,
-            Line::InLine {
-                next: _,
-                due0,
-                due1,
-            } => due0 | due1,
+            Line::Waiting { .. } => false,
+            Line::Pending { .. } => false,
+            Line::InLine { due0, due1, .. } => due0 | due1,
             Line::Failed => false,
         }
     }
@@ -139,17 +107,9 @@ impl Line {
         ensures { λ r. ⌜ ((w : List ℕ) → r ≡ length (itemsOf (lineOf self w))) ⌝ }
     {
         match self {
-            Line::Waiting { items, since: _ } => items,
-            Line::Pending {
-                items,
-                snapshot: _,
-                since: _,
-            } => items,
-            Line::InLine {
-                next: _,
-                due0: _,
-                due1: _,
-            } => 0,
+            Line::Waiting { items, .. } => items,
+            Line::Pending { items, .. } => items,
+            Line::InLine { .. } => 0,
             Line::Failed => 0,
         }
     }
@@ -159,20 +119,12 @@ impl Line {
         ensures { λ r. ⌜ ((w : List ℕ) → r ≡ canServe (lineOf self w)) ⌝ }
     {
         match self {
-            Line::Waiting { items: _, since: _ } => true,
-            Line::Pending {
-                items: _,
-                snapshot,
-                since: _,
-            } => match snapshot {
+            Line::Waiting { .. } => true,
+            Line::Pending { snapshot, .. } => match snapshot {
                 Stamp::Never => false,
                 Stamp::At(_) => true,
             },
-            Line::InLine {
-                next: _,
-                due0: _,
-                due1: _,
-            } => true,
+            Line::InLine { .. } => true,
             Line::Failed => false,
         }
     }
@@ -182,25 +134,17 @@ impl Line {
         ensures { λ r. ⌜ ((w : List ℕ) → lineOf r w ≡ pendingAnew t (lineOf self w)) ⌝ }
     {
         match self {
-            Line::Waiting { items: _, since: _ } => Line::Pending {
+            Line::Waiting { .. } => Line::Pending {
                 items: 0,
                 snapshot: Stamp::Never,
                 since: t,
             },
-            Line::Pending {
-                items: _,
-                snapshot: _,
-                since: _,
-            } => Line::Pending {
+            Line::Pending { .. } => Line::Pending {
                 items: 0,
                 snapshot: Stamp::Never,
                 since: t,
             },
-            Line::InLine {
-                next: _,
-                due0: _,
-                due1: _,
-            } => Line::Pending {
+            Line::InLine { .. } => Line::Pending {
                 items: 0,
                 snapshot: Stamp::Never,
                 since: t,
@@ -214,17 +158,9 @@ impl Line {
         ensures { λ r. ⌜ ((w : List ℕ) → lineOf r w ≡ outOfLine t (lineOf self w)) ⌝ }
     {
         match self {
-            Line::Waiting { items: _, since: _ } => self,
-            Line::Pending {
-                items: _,
-                snapshot: _,
-                since: _,
-            } => self,
-            Line::InLine {
-                next: _,
-                due0: _,
-                due1: _,
-            } => Line::Pending {
+            Line::Waiting { .. } => self,
+            Line::Pending { .. } => self,
+            Line::InLine { .. } => Line::Pending {
                 items: 0,
                 snapshot: Stamp::Never,
                 since: t,
@@ -238,21 +174,13 @@ impl Line {
         ensures { λ r. ⌜ ((w : List ℕ) → lineOf r w ≡ complete t (lineOf self w)) ⌝ }
     {
         match self {
-            Line::Waiting { items, since: _ } => Line::Pending {
+            Line::Waiting { items, .. } => Line::Pending {
                 items,
                 snapshot: Stamp::At(t),
                 since: t,
             },
-            Line::Pending {
-                items: _,
-                snapshot: _,
-                since: _,
-            } => self,
-            Line::InLine {
-                next: _,
-                due0: _,
-                due1: _,
-            } => self,
+            Line::Pending { .. } => self,
+            Line::InLine { .. } => self,
             Line::Failed => self,
         }
     }
@@ -276,11 +204,7 @@ impl Line {
                 snapshot,
                 since,
             },
-            Line::InLine {
-                next: _,
-                due0: _,
-                due1: _,
-            } => self,
+            Line::InLine { .. } => self,
             Line::Failed => self,
         }
     }
@@ -290,17 +214,9 @@ impl Line {
         ensures { λ r. ⌜ ((w : List ℕ) → r ≡ timedOut t (lineOf self w)) ⌝ }
     {
         match self {
-            Line::Waiting { items: _, since } => ALIGN_TIMEOUT <= log::age(t, since),
-            Line::Pending {
-                items: _,
-                snapshot: _,
-                since,
-            } => ALIGN_TIMEOUT <= log::age(t, since),
-            Line::InLine {
-                next: _,
-                due0: _,
-                due1: _,
-            } => false,
+            Line::Waiting { since, .. } => ALIGN_TIMEOUT <= log::age(t, since),
+            Line::Pending { since, .. } => ALIGN_TIMEOUT <= log::age(t, since),
+            Line::InLine { .. } => false,
             Line::Failed => false,
         }
     }
@@ -310,15 +226,11 @@ impl Line {
         ensures { λ r. ⌜ ((w : List ℕ) → (lineOf (r .line) w, ofStep (r .step)) ≡ snapshotStep token (lineOf self w)) ⌝ }
     {
         match self {
-            Line::Waiting { items: _, since: _ } => Stepped {
+            Line::Waiting { .. } => Stepped {
                 line: self,
                 step: Step::Ignored,
             },
-            Line::Pending {
-                items: _,
-                snapshot: _,
-                since: _,
-            } => Stepped {
+            Line::Pending { .. } => Stepped {
                 line: self,
                 step: Step::Ignored,
             },
@@ -336,15 +248,11 @@ impl Line {
         ensures { λ r. ⌜ ((w : List ℕ) → (lineOf (r .line) w, ofStep (r .step)) ≡ eventStep base end same (lineOf self w)) ⌝ }
     {
         match self {
-            Line::Waiting { items: _, since: _ } => Stepped {
+            Line::Waiting { .. } => Stepped {
                 line: self,
                 step: Step::Ignored,
             },
-            Line::Pending {
-                items: _,
-                snapshot: _,
-                since: _,
-            } => Stepped {
+            Line::Pending { .. } => Stepped {
                 line: self,
                 step: Step::Ignored,
             },

@@ -1,3 +1,4 @@
+use Rattle.rules.specs.Quantities.{alignTimeout}
 use lib.Dec.{leb}
 use mathlib.Core.Path.{ap}
 use borrow.Author.Needs.{needs}
@@ -5,10 +6,10 @@ use Rattle.lines.proofs.Line.timed_out.Statement.{statement}
 use Rattle.lines.proofs.Line.timed_out.Tie as tie
 
 returns : tie.Need-returns
-returns c w = rw (c .before .before .self .given .1) (ap (leb 10000) (c .age .ensures))
+returns c w = rw (c .before .before .self .given .1) (ap (leb alignTimeout) (c .age .ensures))
 
 returns-2 : tie.Need-returns-2
-returns-2 c w = rw (c .before .before .self2 .given .1) (ap (leb 10000) (c .age2 .ensures))
+returns-2 c w = rw (c .before .before .self2 .given .1) (ap (leb alignTimeout) (c .age2 .ensures))
 
 returns-3 : tie.Need-returns-3
 returns-3 c w = rw (c .enum-told .given .1)
