@@ -13,10 +13,10 @@ use Rattle.rules.specs.Prints.{before, ofKey}
 use Rattle.rules.specs.Sound.{TablesSound, KeyLess, CountLess}
 use Rattle.rules.proofs.Tests.{ff≢tt, untrue}
 use Rattle.rules.proofs.Order.{same-true, samePair, pairBefore, before-climbs}
-use Rattle.words.specs.Words.{tab}
-use Rattle.words.proofs.Cases.{below-or}
-use Rattle.rows.specs.Rows.{rowAt, alike, Says}
-use Rattle.rows.proofs.Tests.{says, no-both}
+use Rattle.words.specs.Words.{tab, Says}
+use Rattle.words.proofs.Cases.{below-or, says}
+use Rattle.rows.specs.Rows.{rowAt, alike}
+use Rattle.rows.proofs.Tests.{no-both}
 use Rattle.prints.specs.declared.Used.{Used}
 use Rattle.prints.specs.Area.{keyAt, countAt, printsOf}
 use Rattle.prints.specs.Steps.{RowSound}

@@ -13,10 +13,10 @@ use Rattle.rules.specs.Quantities.{same, age, otherKeep}
 use Rattle.rules.specs.Prints.{KeyRow, CountRow, before, ofKey, expirePrints}
 use Rattle.rules.specs.Sound.{TablesSound}
 use Rattle.rules.proofs.Tests.{ff≢tt}
-use Rattle.words.specs.Words.{tab}
+use Rattle.words.specs.Words.{tab, Says}
 use Rattle.words.proofs.Tab.{tab-ext}
-use Rattle.rows.specs.Rows.{rowAt, Says, Put}
-use Rattle.rows.proofs.Tests.{says-yes, says-no}
+use Rattle.rows.specs.Rows.{rowAt, Put}
+use Rattle.words.proofs.Cases.{says-yes, says-no}
 use Rattle.prints.specs.declared.Used.{Used}
 use Rattle.prints.specs.Area.{keyRow, countRow, keyAt, countAt, printsOf, Fits}
 use Rattle.prints.specs.Steps.{staying, CountsKept, KeysKept}

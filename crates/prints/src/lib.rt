@@ -11,7 +11,7 @@ ghost use Rattle.rules.specs.Prints.{ofKey, ofPair, appliedIn, deliveredIn, cou
 ghost use Rattle.rules.specs.Calls.{noRow};
 ghost use Rattle.rules.specs.Sound.{TablesSound};
 ghost use Rattle.rules.specs.declared.Limits.{Limits};
-ghost use Rattle.rows.specs.Rows.{Says};
+ghost use Rattle.words.specs.Words.{Says};
 ghost use Rattle.prints.specs.Area.{keyAt, countAt, printsOf, Fit, Fits, Free};
 ghost use Rattle.prints.specs.Steps.{RowSound, CountsKept, KeysKept};
 use rows::Place;

@@ -1,11 +1,11 @@
 -- The order of rows, and their likeness, from the words of which the first differ.
-use mathlib.Core.Path.{_≡_, refl, sym, _∙_, subst}
+use mathlib.Core.Path.{_≡_, sym, _∙_}
 use mathlib.Core.Bool.{Bool, true, false}
 use Prim.Native.Nat.{ℕ, _<_, _≤_}
 use native.Mathlib.Omega.{arith}
 use lib.Dec.{ltb}
 use borrow.Author.Tests.{lt-ltb, le-ltb, eq-eqb, ne-eqb}
-use Rattle.rows.specs.Rows.{Row, below, alike, Says}
+use Rattle.rows.specs.Rows.{Row, below, alike}
 
 module _ (r : Row) (x y z : ℕ) where
   pub first-less : (three : Bool) → r .a < x → true ≡ below three r x y z
@@ -55,17 +55,6 @@ module _ (r : Row) (x y z : ℕ) where
   pub first-unlike : (three : Bool) → (r .a ≡ x → ⊥) → false ≡ alike three r x y z
   first-unlike false h = rw (ne-eqb (r .a) x h)
   first-unlike true h = rw (ne-eqb (r .a) x h)
-
--- what a test's answer says
-pub says : (b : Bool) (P : Type 0) → (b ≡ true → P) → (b ≡ false → P → ⊥) → Says b P
-says true P f g = f refl
-says false P f g = g refl
-
-pub says-yes : {b : Bool} (P : Type 0) → Says b P → b ≡ true → P
-says-yes P h e = subst (λ (b : Bool). Says b P) e h
-
-pub says-no : {b : Bool} (P : Type 0) → Says b P → b ≡ false → P → ⊥
-says-no P h e = subst (λ (b : Bool). Says b P) e h
 
 pub no-both : {b : Bool} → b ≡ true → b ≡ false → ⊥
 no-both p q = let z : _≡_ {A = ℕ} 0 1 = cc in omega arith

@@ -40,11 +40,6 @@ abbrev pub alike : Bool → Row → ℕ → ℕ → ℕ → Bool
 alike false r x y z = level r x y
 alike true r x y z = level r x y && eqb (r .c) z
 
--- a test's answer says whether P
-abbrev pub Says : Bool → Type 0 → Type 0
-Says true P = P
-Says false P = P → ⊥
-
 -- row i of the table is its first, or above the row before it
 abbrev pub Rises : Bool → ℕ → List ℕ → ℕ → Type 0
 Rises three b w i = 0 < i → below three (rowIn b w (i - 1)) (rowIn b w i .a) (rowIn b w i .b) (rowIn b w i .c) ≡ true

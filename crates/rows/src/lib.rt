@@ -3,7 +3,8 @@
 ghost use mathlib.Core.Path.{_≡_};
 ghost use Prim.Native.Nat.{_+_, _-_, _*_, _≤_, _<_};
 ghost use lib.ListN.{length};
-ghost use Rattle.rows.specs.Rows.{row, rowAt, rowIn, below, alike, Says, Rises, Located, Put, Inserted, Room, Upserted};
+ghost use Rattle.rows.specs.Rows.{row, rowAt, rowIn, below, alike, Rises, Located, Put, Inserted, Room, Upserted};
+ghost use Rattle.words.specs.Words.{Says};
 
 // Where a row stands, or the gap before the row where it would stand.
 pub enum Place {

@@ -1,7 +1,8 @@
--- Lists of words: parts that are lent and come back, lists made from an index, words moved.
+-- Lists of words: parts that are lent and come back, lists made from an index, words moved; and what a test says.
 -- The forms are those of the borrow checker, so that no goal is rewritten to meet a law.
 use mathlib.Core.Path.{_≡_}
 use mathlib.Core.List.{List, [], _∷_, _++_}
+use mathlib.Core.Bool.{Bool, true, false}
 use Prim.Native.Nat.{ℕ, zero, suc, _+_, _-_, _≤_, _<_}
 use lib.ListN.{length, take, drop, getD}
 
@@ -23,3 +24,8 @@ pub record Moved (from : ℕ) (v w : List ℕ) (i : ℕ) : Type 0 where
   pub size : length w ≡ length v
   pub done : (j : ℕ) → j < i → getD w j 0 ≡ getD v (from + j) 0
   pub rest : (j : ℕ) → i ≤ j → getD w j 0 ≡ getD v j 0
+
+-- a test's answer says whether P
+abbrev pub Says : Bool → Type 0 → Type 0
+Says true P = P
+Says false P = P → ⊥

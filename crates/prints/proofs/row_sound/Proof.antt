@@ -1,6 +1,6 @@
 use borrow.Author.Needs.{needs}
 use native.Mathlib.Omega.{arith}
-use Rattle.rows.proofs.Tests.{says-yes, says-no}
+use Rattle.words.proofs.Cases.{says-yes, says-no}
 use Rattle.prints.proofs.row_sound.Statement.{statement}
 use Rattle.prints.proofs.row_sound.Tie as tie
 

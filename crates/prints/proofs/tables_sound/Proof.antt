@@ -4,7 +4,7 @@ use mathlib.Core.Bool.{true}
 use Prim.Native.Nat.{_+_, _-_, _<_}
 use native.Mathlib.Omega.{arith}
 use Rattle.rules.specs.Prints.{ofKey}
-use Rattle.rows.proofs.Tests.{says-yes, says-no}
+use Rattle.words.proofs.Cases.{says-yes, says-no}
 use Rattle.prints.specs.Area.{keyAt, countAt}
 use Rattle.prints.proofs.Merge.{Merged, merged-none, merged-key, merged-pair, merged-all, merged-left, key-sound, pair-sound}
 use Rattle.prints.proofs.tables_sound.Statement.{statement}

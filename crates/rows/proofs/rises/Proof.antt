@@ -2,7 +2,8 @@ use borrow.Author.Needs.{needs}
 use mathlib.Core.Path.{sym, _∙_}
 use native.Mathlib.Omega.{arith}
 use Rattle.rows.specs.Rows.{rowAt}
-use Rattle.rows.proofs.Tests.{says, no-both}
+use Rattle.rows.proofs.Tests.{no-both}
+use Rattle.words.proofs.Cases.{says}
 use Rattle.rows.proofs.rises.Statement.{statement}
 use Rattle.rows.proofs.rises.Tie as tie
 
