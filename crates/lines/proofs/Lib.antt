@@ -1,3 +1,4 @@
 pub mod Laws
 pub mod StepLaws
 pub mod AreaLaws
+pub mod SoundLaws

@@ -1,3 +1,4 @@
 pub mod Line
 pub mod Steps
 pub mod Area
+pub mod AreaSound

@@ -8,11 +8,13 @@ ghost use mathlib.Core.List.{List, [], _∷_, _++_};
 ghost use Prim.Native.Nat.{ℕ, _+_, _*_, _≤_, _<_, _^_};
 ghost use lib.ListN.{length, getD, set};
 ghost use Rattle.rules.specs.Quantities.{same, key};
-ghost use Rattle.rules.specs.Lists.{any};
-ghost use Rattle.words.specs.Words.{part, back};
-ghost use Rattle.place.specs.Items.{kindOf};
+ghost use Rattle.rules.specs.Lists.{any, Each};
+ghost use Rattle.rules.specs.Sound.{Known};
+ghost use Rattle.words.specs.Words.{part, back, Says};
+ghost use Rattle.place.specs.Items.{kindOf, itemsIn};
 ghost use Rattle.lines.specs.Line.{lineOf, heldOf, holding};
 ghost use Rattle.lines.specs.Area.{flagOf, lineIn, lineWords, headLine, printIn, printsIn, printCount, noPrint, connOf, withLine, withHeld, Fit};
+ghost use Rattle.lines.specs.AreaSound.{LineFits, AreaSound};
 
 fn flag_of(b: bool) -> u64
     ensures { λ r. ⌜ r ≡ flagOf b ⌝ }
@@ -206,4 +208,50 @@ pub fn drop_prints(area: &mut [u64], h: usize)
     ensures { λ r. ⌜ connOf h (now (area .exit)) ≡ withHeld [] (connOf h (now (area .entry))) ⌝ }
 {
     set_prints(area, 0);
+}
+
+// Whether n items fit the area, and their tokens are known.
+fn items_sound(items: &[u64], n: usize, h: usize) -> bool
+    requires { ⌜ length (now items) ≡ 4 * h + 32 ⌝ }
+    ensures { λ r. ⌜ Says r ((n ≤ h + 8) × Each Known (itemsIn n (now (items .entry)))) ⌝ }
+{
+    if h + 8 < n {
+        return false;
+    }
+    let mut i = 0;
+    while i < n {
+        if 2 < items[4 * i] {
+            return false;
+        }
+        i += 1;
+    }
+    true
+}
+
+// Whether the line's counts, tokens and next number are those of a sound store whose log ends at `end`.
+fn line_sound(items: &[u64], line: Line, h: usize, end: u64) -> bool
+    requires { ⌜ length (now items) ≡ 4 * h + 32 ⌝ }
+    ensures { λ r. ⌜ Says r (LineFits h end (lineOf line (now (items .entry)))) ⌝ }
+{
+    match line {
+        Line::Waiting { items: n, .. } => items_sound(items, n, h),
+        Line::Pending { items: n, .. } => items_sound(items, n, h),
+        Line::InLine { next, .. } => next <= end,
+        Line::Failed => true,
+    }
+}
+
+// Whether an area is one of a sound store whose log ends at `end`.
+pub fn sound(area: &[u64], h: usize, end: u64) -> bool
+    requires { ⌜ length (now area) ≡ 7 * h + 64 ⌝ }
+    ensures { λ r. ⌜ Says r (AreaSound h end (now (area .entry))) ⌝ }
+{
+    if 3 < area[1] {
+        return false;
+    }
+    if h < area[9] as usize {
+        return false;
+    }
+    let e = 4 * h + 64;
+    line_sound(&area[32..e], line(area), h, end)
 }

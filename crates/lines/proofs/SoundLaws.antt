@@ -1,0 +1,63 @@
+-- Laws of a sound area.
+use mathlib.Core.Path.{_≡_, refl, sym, subst}
+use mathlib.Core.List.{List}
+use mathlib.Core.Bool.{Bool, true, false}
+use Prim.Native.Nat.{ℕ, zero, suc, _+_, _*_, _≤_, _<_, zero-le, suc-le-suc}
+use native.Mathlib.Omega.{arith}
+use lib.Dec.{leb}
+use lib.ListN.{length, getD}
+use Rattle.rules.proofs.Tests.{leb-true, leb-false}
+use Rattle.words.proofs.Cases.{says}
+use Rattle.rules.specs.declared.Item.{Item}
+use Rattle.rules.specs.declared.Item.the-variants as Item
+use Rattle.rules.specs.Lists.{Each}
+use Rattle.rules.specs.Lines as Rules
+use Rattle.rules.specs.Sound.{Known}
+use Rattle.rules.proofs.ListLaws.{each-at}
+use Rattle.words.specs.Words.{tab, Says}
+use Rattle.words.proofs.Tab.{getD-tab, length-tab}
+use Rattle.place.specs.Items.{itemOf, itemIn, itemsIn}
+use Rattle.place.proofs.Items.{items-length}
+use Rattle.lines.specs.declared.Line.{Line}
+use Rattle.lines.specs.declared.Line.the-variants as Line
+use Rattle.lines.specs.Line.{lineOf}
+use Rattle.lines.specs.Area.{headLine, itemWords, printCount, connOf}
+use Rattle.lines.specs.AreaSound.{LineFits, AreaSound}
+
+each-tab : {A : Type 0} (P : A → Type 0) (n : ℕ) (f : ℕ → A) → ((i : ℕ) → i < n → P (f i)) → Each P (tab n f)
+each-tab P zero f h = tt
+each-tab P (suc n) f h = (h 0 (suc-le-suc zero-le), each-tab P n (λ i. f (suc i)) (λ i l. h (suc i) (suc-le-suc l)))
+
+-- an item's token is known just where its kind word is at most 2
+known-of : (k a b m : ℕ) → k ≤ 2 → Known (itemOf k a b m)
+known-of zero a b m h = tt
+known-of (suc t) a b m h = omega arith
+
+of-known : (k a b m : ℕ) → Known (itemOf k a b m) → k ≤ 2
+of-known zero a b m h = omega arith
+of-known (suc t) a b m h = omega arith
+
+module _ (n : ℕ) (w : List ℕ) where
+  pub all-known : ((i : ℕ) → i < n → getD w (4 * i) 0 ≤ 2) → Each Known (itemsIn n w)
+  unfolding itemsIn
+  all-known h = each-tab Known n (itemIn w) (λ i l. known-of (getD w (4 * i) 0) _ _ _ (h i l))
+
+  pub known-kind : Each Known (itemsIn n w) → (i : ℕ) → i < n → getD w (4 * i) 0 ≤ 2
+  unfolding itemsIn
+  known-kind e i l =
+      let k : Known (getD (tab n (itemIn w)) i (Item.Snapshot 0 0)) = each-at Known (tab n (itemIn w)) i (Item.Snapshot 0 0) (let z = length-tab n (itemIn w) in omega arith) e in
+      of-known (getD w (4 * i) 0) _ _ _ (rw (getD-tab n (itemIn w) i (Item.Snapshot 0 0) l) at k)
+
+pub leb-says : (m n : ℕ) → Says (leb m n) (m ≤ n)
+leb-says m n = says (leb m n) (m ≤ n) (λ e. leb-true e) (λ e h. let k : n < m = leb-false e in omega arith)
+
+-- what the line's test says, by its kind
+pub items-fit : (h n : ℕ) (w : List ℕ) (r : Bool) → Says r ((n ≤ h + 8) × Each Known (itemsIn n w)) → Says r ((length (itemsIn n w) ≤ h + 8) × Each Known (itemsIn n w))
+items-fit h n w r s = subst (λ k. Says r ((k ≤ h + 8) × Each Known (itemsIn n w))) (sym (items-length n w)) s
+
+-- what the area's test says, from its line's
+pub area-says : (h e : ℕ) (w : List ℕ) (l : Line) (r : Bool) → l ≡ headLine w → getD w 1 0 ≤ 3 → printCount w ≤ h
+    → Says r (LineFits h e (lineOf l (itemWords h w))) → Says r (AreaSound h e w)
+unfolding connOf
+area-says h e w l true q k p s = record { kind = k; prints = p; line = subst (λ x. LineFits h e (lineOf x (itemWords h w))) q s }
+area-says h e w l false q k p s = λ a. s (subst (λ x. LineFits h e (lineOf x (itemWords h w))) (sym q) (a .line))
