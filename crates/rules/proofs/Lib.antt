@@ -1,4 +1,5 @@
 pub mod AllPoints
+pub mod AllDifferences
 pub mod Tests
 pub mod ListLaws
 pub mod Order

@@ -12,3 +12,4 @@ pub mod Answers
 pub mod Sound
 pub mod Demand
 pub mod Points
+pub mod Differences
