@@ -1,3 +1,5 @@
 pub mod Reading
 mod Changes
 pub mod Search
+pub mod Claims
+pub mod ViewLaws

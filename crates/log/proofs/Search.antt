@@ -1,46 +1,57 @@
 -- What a log's reading says of a number, of old entries and of held keys.
-use mathlib.Core.Path.{_≡_, refl, ap, _∙_}
+use mathlib.Core.Path.{_≡_, refl, ap, sym, _∙_}
 use mathlib.Core.List.{List}
 use mathlib.Core.Bool.{true, false}
 use mathlib.Core.Option.{none, some}
 use Prim.Native.Nat.{ℕ, zero, suc, _+_, _-_, _*_, _≤_, _<_, zero-le, suc-le-suc}
 use native.Mathlib.Nat.{le-of-suc-le-suc, not-suc-le-zero}
 use native.Mathlib.Omega.{arith}
-use lib.ListN.{getD, drop}
+use lib.ListN.{length, getD, drop, length-map}
 use borrow.Author.Count.{below-more}
 use borrow.Author.Tests.{lt-ltb, le-ltb, le-leb, lt-leb}
 use Rattle.rules.specs.Quantities.{Key, noKey, age, logKeep, same}
-use Rattle.rules.specs.Log.{keys, keyAt, old}
+use Rattle.rules.specs.Log.{Log, keys, keyAt, old}
 use Rattle.rules.specs.Place.{fits}
 use Rattle.words.specs.Words.{tab}
-use Rattle.words.proofs.Tab.{getD-tab, tab-from}
+use Rattle.words.proofs.Tab.{length-tab, getD-tab, tab-from}
 use Rattle.log.specs.Log.{keyIn, keysIn, logOf, Fit}
 use Rattle.log.specs.Answers.{keyAnswer, matchAnswer}
 use Rattle.log.specs.declared.KeyAt.the-variants as KeyAt
 use Rattle.log.specs.declared.Matched.the-variants as Matched
 use Rattle.log.specs.declared.Head.{Head}
-use Rattle.log.proofs.Reading.{entryAt, log-keys, log-length}
+use Rattle.log.proofs.Reading.{entryAt, log-keys}
 
--- the key of a number
+pub number-before : (l : Log) (n : ℕ) → n < l .base → KeyAt.Nowhere ≡ keyAnswer (keyAt n l)
+unfolding keyAt
+number-before l n b = simp (lt-leb _ _ b)
+
+-- the key of a number in a log whose keys stand in w
+module _ (l : Log) (count : ℕ) (w : List ℕ) (stand : keys l ≡ keysIn count w) (n : ℕ) where
+  entries : length (l .entries) ≡ count
+  entries = sym (length-map (l .entries) (λ e. e .0)) ∙ ap length stand ∙ length-tab count (keyIn w)
+
+  pub number-past : l .base ≤ n → count ≤ n - l .base → KeyAt.Nowhere ≡ keyAnswer (keyAt n l)
+  unfolding keyAt
+  number-past b e = simp (le-leb _ _ b, entries, le-ltb n (l .base + count) (omega arith))
+
+  pub number-in : l .base ≤ n → n - l .base < count → KeyAt.Key (keyIn w (n - l .base)) ≡ keyAnswer (keyAt n l)
+  unfolding keyAt
+  number-in b e =
+      simp (le-leb _ _ b, entries, lt-ltb n (l .base + count) (omega arith), stand, getD-tab count (keyIn w) (n - l .base) noKey e)
+
+-- in an area
 module _ {g : ℕ} {w : List ℕ} {h : Head} (fit : Fit g w h) (n : ℕ) where
   pub key-before : n < h .base → KeyAt.Nowhere ≡ keyAnswer (keyAt n (logOf g w h))
-  unfolding keyAt logOf
-  key-before l = simp (lt-leb _ _ l)
+  unfolding logOf
+  key-before b = number-before (logOf g w h) n b
 
   pub key-past : h .base ≤ n → h .count ≤ n - h .base → KeyAt.Nowhere ≡ keyAnswer (keyAt n (logOf g w h))
-  unfolding keyAt logOf
-  key-past b l = simp (le-leb _ _ b, log-length g w h, le-ltb n (h .base + h .count) (omega arith))
+  unfolding logOf
+  key-past b e = number-past (logOf g w h) (h .count) w (log-keys g w h) n b e
 
   pub key-in : h .base ≤ n → n - h .base < h .count → KeyAt.Key (keyIn w (n - h .base)) ≡ keyAnswer (keyAt n (logOf g w h))
-  unfolding keyAt logOf
-  key-in b l =
-      simp (
-        le-leb _ _ b,
-        log-length g w h,
-        lt-ltb n (h .base + h .count) (omega arith),
-        log-keys g w h,
-        getD-tab (h .count) (keyIn w) (n - h .base) noKey l,
-      )
+  unfolding logOf
+  key-in b e = number-in (logOf g w h) (h .count) w (log-keys g w h) n b e
 
 -- i entries at the front are old, and no more
 old-is : (t n : ℕ) (f : ℕ → Key × ℕ) (i : ℕ) → i ≤ n → ((j : ℕ) → j < i → logKeep < age t (f j .1)) → (i < n → age t (f i .1) ≤ logKeep) → i ≡ old t (tab n f)
@@ -102,14 +113,21 @@ module _ {w : List ℕ} {count : ℕ} {held : List ℕ} {n a i k : ℕ} (m : Mat
         matched = below-more (λ j. same (keyIn held j) (keyIn w (a + j)) ≡ true) k (m .matched) (rw (m .place) at e);
       }
 
-module _ {g : ℕ} {w : List ℕ} {h : Head} {held : List ℕ} {n a i k : ℕ} (fit : Fit g w h) (m : Matching w (h .count) held n a i k) where
-  log-from : drop a (keys (logOf g w h)) ≡ tab (h .count - a) (λ j. keyIn w (a + j))
-  log-from = ap (drop a) (log-keys g w h) ∙ tab-from a (h .count) (keyIn w)
+  keys-from : drop a (keysIn count w) ≡ tab (count - a) (λ j. keyIn w (a + j))
+  keys-from = tab-from a count (keyIn w)
 
+  pub keys-fit : (k < n → i < count → ⊥) → Matched.Fits k ≡ matchAnswer (fits (keysIn n held) (drop a (keysIn count w)))
+  keys-fit e =
+      rw (keys-from, fits-some n (count - a) (keyIn held) (λ j. keyIn w (a + j)) k (m .held-left) (m .log-left) (m .matched) (λ p q. e p (omega arith)))
+
+  pub keys-differ : k < n → i < count → same (keyIn held k) (keyIn w i) ≡ false → Matched.Differs ≡ matchAnswer (fits (keysIn n held) (drop a (keysIn count w)))
+  keys-differ ln lc e =
+      rw (keys-from, fits-none n (count - a) (keyIn held) (λ j. keyIn w (a + j)) k ln (omega arith) (m .matched) (rw (m .place) at e))
+
+-- in an area
+module _ {g : ℕ} {w : List ℕ} {h : Head} {held : List ℕ} {n a i k : ℕ} (fit : Fit g w h) (m : Matching w (h .count) held n a i k) where
   pub match-fits : (k < n → i < h .count → ⊥) → Matched.Fits k ≡ matchAnswer (fits (keysIn n held) (drop a (keys (logOf g w h))))
-  match-fits e =
-      rw (log-from, fits-some n (h .count - a) (keyIn held) (λ j. keyIn w (a + j)) k (m .held-left) (m .log-left) (m .matched) (λ p q. e p (omega arith)))
+  match-fits e = rw (log-keys g w h) (keys-fit m e)
 
   pub match-differs : k < n → i < h .count → same (keyIn held k) (keyIn w i) ≡ false → Matched.Differs ≡ matchAnswer (fits (keysIn n held) (drop a (keys (logOf g w h))))
-  match-differs ln lc e =
-      rw (log-from, fits-none n (h .count - a) (keyIn held) (λ j. keyIn w (a + j)) k ln (omega arith) (m .matched) (rw (m .place) at e))
+  match-differs ln lc e = rw (log-keys g w h) (keys-differ m ln lc e)

@@ -11,6 +11,9 @@ ghost use Rattle.log.specs.Answers.{keyAnswer, matchAnswer};
 use rules::EventKey;
 use rules::Stamp;
 
+pub mod lent; // lent.rt: the head lent and changed
+pub mod view; // view.rt: a view of the log's keys
+
 // An entry older than this leaves the log.
 const LOG_KEEP: u64 = 10_000;
 

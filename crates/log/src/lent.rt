@@ -1,0 +1,26 @@
+// The head lent and changed: thin over the functions that take it by value.
+ghost use mathlib.Core.Path.{_≡_};
+ghost use mathlib.Core.List.{List};
+ghost use Prim.Native.Nat.{ℕ, _+_, _<_, _^_};
+ghost use Rattle.rules.specs.Log.{push, clear};
+ghost use Rattle.log.specs.Log.{logOf, Fit};
+use super::Head;
+use rules::EventKey;
+
+// Adds an entry at the end and sets last-applied.
+pub fn push(area: &mut [u64], g: usize, head: &mut Head, key: EventKey, t: u64)
+    requires { ⌜ (Fit g (now area) (now head)) × (now head .count < g) ⌝ }
+    ensures { λ _. ⌜ logOf g (now (area .exit)) (now (head .exit)) ≡ push key t (logOf g (now (area .entry)) (now (head .entry))) ⌝ }
+    ensures { λ _. ⌜ (Fit g (now (area .exit)) (now (head .exit))) × ((now (head .exit) .base ≡ now (head .entry) .base) × (now (head .exit) .count ≡ now (head .entry) .count + 1)) ⌝ }
+{
+    *head = super::push(area, g, *head, key, t);
+}
+
+// Forgets the entries; the numbers go on.
+pub fn clear(head: &mut Head)
+    requires { ⌜ now head .base + now head .count < 2 ^ 64 ⌝ }
+    ensures { λ _. ⌜ ((g : ℕ) (w : List ℕ) → logOf g w (now (head .exit)) ≡ clear (logOf g w (now (head .entry)))) ⌝ }
+    ensures { λ _. ⌜ (now (head .exit) .base ≡ now (head .entry) .base + now (head .entry) .count) × (now (head .exit) .count ≡ 0) ⌝ }
+{
+    *head = super::clear(*head);
+}
