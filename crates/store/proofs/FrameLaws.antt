@@ -1,0 +1,237 @@
+-- What a change of some words leaves of a store's reading: each of its parts is read from words of its own.
+use mathlib.Core.Path.{_≡_, refl, sym, ap, _∙_, subst}
+use mathlib.Core.List.{List}
+use Prim.Native.Nat.{ℕ, _+_, _-_, _*_, _≤_, _<_}
+use native.Mathlib.Omega.{arith}
+use mathlib.Core.Logic.{⊎-elim}
+use lib.ListN.{length, take, drop, getD, set, length-drop, length-set}
+use lib.Seq.{ext-getD, getD-drop, getD-set-same, getD-set-other}
+use Rattle.rules.specs.declared.Stamp.{Stamp}
+use Rattle.rules.specs.declared.Stamp.the-variants as Stamp
+use Rattle.rules.specs.declared.Limits.{Limits}
+use Rattle.rules.specs.Quantities.{wordsNeeded}
+use Rattle.rules.specs.Lines.{Market, withLog, withPrints}
+use Rattle.rules.specs.Sound as Rules
+use Rattle.words.specs.Words.{part, back, tab}
+use Rattle.words.proofs.Parts.{Loan, part-ext, part-same, length-back, back-below, back-above}
+use Rattle.words.proofs.Tab.{tab-ext}
+use Rattle.words.proofs.Cases.{below-or}
+use Rattle.log.specs.declared.Head.{Head}
+use Rattle.log.specs.Log.{logOf}
+use Rattle.prints.specs.declared.Used.{Used}
+use Rattle.prints.specs.Area.{printsOf}
+use Rattle.lines.specs.Area.{stampIn, stampFlag, stampTime, connOf}
+use Rattle.store.specs.Store.{limitsOf, headIn, headWords, headOf, lineCount, usedOf, tablesAt, linesAt, lineWidth, lineStart, logWords, tableWords, lineWordsAt, connIn, marketOf, Sized, KindsKnown, Sound}
+use Rattle.store.specs.Moves.{Moved}
+
+-- ---- the words of a store after part of them came back: the log's head, the log's words, the tables' words, how many rows are in use
+
+abbrev pub putHead : Head → List ℕ → List ℕ
+putHead h w = back 5 9 (headWords h) w
+
+abbrev pub putLog : List ℕ → List ℕ → List ℕ
+putLog ys w = back 64 (tablesAt (limitsOf w)) ys w
+
+abbrev pub putTables : List ℕ → List ℕ → List ℕ
+putTables ys w = back (tablesAt (limitsOf w)) (linesAt (limitsOf w)) ys w
+
+abbrev pub putUsed : Used → List ℕ → List ℕ
+putUsed u w = set (set w 10 (u .keys)) 11 (u .counts)
+
+-- ---- a change of some words
+
+-- v is w but for words from a on and below e
+pub record Only (a e : ℕ) (w v : List ℕ) : Type 0 where
+  pub size : length v ≡ length w
+  pub others : (i : ℕ) → (a ≤ i → i < e → ⊥) → getD v i 0 ≡ getD w i 0
+
+pub only-back : {a e : ℕ} {ys w : List ℕ} → Loan a e ys w → Only a e w (back a e ys w)
+only-back {a} {e} {ys} {w} h =
+    record {
+      size = length-back a e ys w h;
+      others = λ i n. ⊎-elim (back-below a e ys w h i) (λ l. back-above a e ys w h i (⊎-elim (λ m. absurd (n l m)) (λ m. m) (below-or i e))) (below-or i a);
+    }
+
+-- two words set
+pub only-set : {w : List ℕ} (k m n : ℕ) → Only k (k + 2) w (set (set w k m) (k + 1) n)
+only-set {w} k m n =
+    record {
+      size = simp length-set;
+      others = λ i h. getD-set-other (set w k m) (k + 1) i n 0 (λ q. h (omega arith) (omega arith)) ∙ getD-set-other w k i m 0 (λ q. h (omega arith) (omega arith));
+    }
+
+-- the words from the a-th on, to the end
+drop-ext : (a : ℕ) (v w : List ℕ) → length v ≡ length w → ((i : ℕ) → a ≤ i → getD v i 0 ≡ getD w i 0) → drop a v ≡ drop a w
+drop-ext a v w e h =
+    ext-getD 0 (drop a v) (drop a w) (simp length-drop (omega arith)) (λ i l. getD-drop a v i 0 ∙ h (a + i) (omega arith) ∙ sym (getD-drop a w i 0))
+
+-- ---- what stays where the limits' words do
+
+module _ {a e : ℕ} {w v : List ℕ} (o : Only a e w v) (below : 5 ≤ a) where
+  low : (i : ℕ) → i < 5 → getD v i 0 ≡ getD w i 0
+  low i l = o .others i (λ p q. omega arith)
+
+  pub limits-stay : limitsOf v ≡ limitsOf w
+  limits-stay = λ j. record { L = low 0 (omega arith) j; H = low 1 (omega arith) j; G = low 2 (omega arith) j; C = low 3 (omega arith) j; D = low 4 (omega arith) j }
+
+  pub sized-stay : Sized w → Sized v
+  sized-stay z =
+      let s : length v ≡ length w = o .size in
+      let n : wordsNeeded (limitsOf v) ≡ wordsNeeded (limitsOf w) = ap wordsNeeded limits-stay in
+      record {
+        header = omega arith;
+        long = omega (arith, n);
+        lines = omega (arith, low 0 (omega arith));
+        held = omega (arith, low 1 (omega arith));
+        events = omega (arith, low 2 (omega arith));
+        keys = omega (arith, low 3 (omega arith));
+        pairs = omega (arith, low 4 (omega arith));
+      }
+
+  -- a part that the change leaves
+  pub part-stays : (b f : ℕ) → f ≤ length w → ((i : ℕ) → b ≤ i → i < f → a ≤ i → i < e → ⊥) → part b f v ≡ part b f w
+  part-stays b f l apart = part-ext b f v w (o .size) l (λ i p q. o .others i (apart i p q))
+
+  module _ (z : Sized w) where
+    pub head-stays : 9 ≤ a → headOf v ≡ headOf w
+    head-stays l = ap headIn (part-stays 5 9 (omega arith) (λ i p q r s. omega arith))
+
+    pub used-stays : ((i : ℕ) → 10 ≤ i → i < 12 → a ≤ i → i < e → ⊥) → usedOf v ≡ usedOf w
+    used-stays apart =
+        let keys = o .others 10 (apart 10 (omega arith) (omega arith)) in
+        let counts = o .others 11 (apart 11 (omega arith) (omega arith)) in
+        λ j. record { keys = keys j; counts = counts j }
+
+    pub log-stays : ((i : ℕ) → 64 ≤ i → i < tablesAt (limitsOf w) → a ≤ i → i < e → ⊥) → logWords v ≡ logWords w
+    log-stays apart = ap (λ (l : Limits). part 64 (tablesAt l) v) limits-stay ∙ part-stays 64 (tablesAt (limitsOf w)) (omega arith) apart
+
+    pub tables-stay : ((i : ℕ) → tablesAt (limitsOf w) ≤ i → i < linesAt (limitsOf w) → a ≤ i → i < e → ⊥) → tableWords v ≡ tableWords w
+    tables-stay apart = ap (λ (l : Limits). part (tablesAt l) (linesAt l) v) limits-stay ∙ part-stays (tablesAt (limitsOf w)) (linesAt (limitsOf w)) (omega arith) apart
+
+    -- ---- a change neither in the lines' words nor in their count
+    module _ (one : a ≤ 9 → 9 < e → ⊥) (ends : e ≤ linesAt (limitsOf w)) where
+      line-stays : (i : ℕ) → lineWordsAt v i ≡ lineWordsAt w i
+      line-stays i =
+          let b = lineStart (limitsOf w) i in
+          ap (λ (l : Limits). part (lineStart l i) (lineStart l i + lineWidth l) v) limits-stay
+          ∙ ap (take (b + lineWidth (limitsOf w) - b)) (drop-ext b v w (o .size) (λ j l. o .others j (λ p q. omega arith)))
+
+      count-stays : lineCount v ≡ lineCount w
+      count-stays = o .others 9 one
+
+      lines-stay : tab (lineCount v) (connIn v) ≡ tab (lineCount w) (connIn w)
+      lines-stay =
+          ap (λ (n : ℕ). tab n (connIn v)) count-stays ∙ tab-ext (lineCount w) (connIn v) (connIn w) (λ i l. λ j. connOf (limits-stay j .H) (line-stays i j))
+
+      kinds-stay : KindsKnown w → KindsKnown v
+      kinds-stay k i l = subst (λ (x : List ℕ). getD x 1 0 ≤ 3) (sym (line-stays i)) (k i (omega (arith, count-stays)))
+
+      -- the market then has the log and the prints that the words mean now
+      pub moved-to : {xs ts : List ℕ} {h : Head} {u : Used} → logWords v ≡ xs → headOf v ≡ h → tableWords v ≡ ts → usedOf v ≡ u
+          → Moved w v (withLog (logOf (limitsOf w .G) xs h) (withPrints (printsOf (limitsOf w .C) ts u) (marketOf w)))
+      unfolding marketOf
+      moved-to x h t u =
+          record {
+            market = λ j. record { limits = limits-stay j; log = logOf (limits-stay j .G) (x j) (h j); prints = printsOf (limits-stay j .C) (t j) (u j); lines = lines-stay j };
+            sized = sized-stay z;
+            kinds = kinds-stay;
+          }
+
+-- one move after another
+pub moved-on : {w v x : List ℕ} {m n : Market} → Moved w v m → Moved v x n → Moved w x n
+moved-on a b = record { market = b .market; sized = b .sized; kinds = λ k. b .kinds (a .kinds k) }
+
+-- the same move, by equal words and an equal market
+pub moved-is : {w v x : List ℕ} {m n : Market} → v ≡ x → Moved w x m → m ≡ n → Moved w v n
+moved-is {w} p a q = rw p (record { market = a .market ∙ q; sized = a .sized; kinds = a .kinds })
+
+-- what a move leaves: the market's limits, and with a sound market a sound store
+pub moved-limits : {w v : List ℕ} {m : Market} → Moved w v m → limitsOf v ≡ m .limits
+unfolding marketOf
+moved-limits a = ap (λ (n : Market). n .limits) (a .market)
+
+pub moved-sound : {w v : List ℕ} {m : Market} → Sound w → Moved w v m → Rules.Sound m → Sound v
+moved-sound s a r = record { sized = a .sized; kinds = a .kinds (s .kinds); market = subst Rules.Sound (sym (a .market)) r }
+
+-- ---- the head's words come back as those of h
+
+stamp-back : (s : Stamp) → stampIn (stampFlag s) (stampTime s) ≡ s
+stamp-back Stamp.Never = refl
+stamp-back (Stamp.At t) = refl
+
+head-back : (h : Head) → headIn (headWords h) ≡ h
+head-back h = λ j. record { base = h .base; count = h .count; last = stamp-back (h .last) j }
+
+module _ (w : List ℕ) (h : Head) (z : Sized w) where
+  head-loan : Loan 5 9 (headWords h) w
+  head-loan = record { kept = refl; start = omega arith; inside = omega arith }
+
+  pub head-moved : Moved w (putHead h w) (withLog (logOf (limitsOf w .G) (logWords w) h) (marketOf w))
+  unfolding marketOf
+  head-moved =
+      let o = only-back head-loan in
+      moved-to o (omega arith) z (λ p q. omega arith) (omega arith)
+      (log-stays o (omega arith) z (λ i p q r s. omega arith))
+      (ap headIn (part-same 5 9 (headWords h) w head-loan) ∙ head-back h)
+      (tables-stay o (omega arith) z (λ i p q r s. omega arith))
+      (used-stays o (omega arith) z (λ i p q r s. omega arith))
+
+-- ---- the log's words come back as ys
+module _ (w ys : List ℕ) (z : Sized w) (kept : length ys ≡ 3 * limitsOf w .G) where
+  log-loan : Loan 64 (tablesAt (limitsOf w)) ys w
+  log-loan = record { kept = omega arith; start = omega arith; inside = omega arith }
+
+  pub log-limits : limitsOf (putLog ys w) ≡ limitsOf w
+  log-limits = limits-stay (only-back log-loan) (omega arith)
+
+  pub log-put : logWords (putLog ys w) ≡ ys
+  log-put = ap (λ (l : Limits). part 64 (tablesAt l) (putLog ys w)) log-limits ∙ part-same 64 (tablesAt (limitsOf w)) ys w log-loan
+
+  pub log-moved : Moved w (putLog ys w) (withLog (logOf (limitsOf w .G) ys (headOf w)) (marketOf w))
+  unfolding marketOf
+  log-moved =
+      let o = only-back log-loan in
+      moved-to o (omega arith) z (λ p q. omega arith) (omega arith)
+      log-put
+      (head-stays o (omega arith) z (omega arith))
+      (tables-stay o (omega arith) z (λ i p q r s. omega arith))
+      (used-stays o (omega arith) z (λ i p q r s. omega arith))
+
+-- ---- the tables' words come back as ys
+module _ (w ys : List ℕ) (z : Sized w) (kept : length ys ≡ 4 * limitsOf w .C + 4 * limitsOf w .D) where
+  tables-loan : Loan (tablesAt (limitsOf w)) (linesAt (limitsOf w)) ys w
+  tables-loan = record { kept = omega arith; start = omega arith; inside = omega arith }
+
+  pub tables-limits : limitsOf (putTables ys w) ≡ limitsOf w
+  tables-limits = limits-stay (only-back tables-loan) (omega arith)
+
+  pub tables-put : tableWords (putTables ys w) ≡ ys
+  tables-put = ap (λ (l : Limits). part (tablesAt l) (linesAt l) (putTables ys w)) tables-limits ∙ part-same (tablesAt (limitsOf w)) (linesAt (limitsOf w)) ys w tables-loan
+
+  pub tables-moved : Moved w (putTables ys w) (withPrints (printsOf (limitsOf w .C) ys (usedOf w)) (marketOf w))
+  unfolding marketOf
+  tables-moved =
+      let o = only-back tables-loan in
+      moved-to o (omega arith) z (λ p q. omega arith) (omega arith)
+      (log-stays o (omega arith) z (λ i p q r s. omega arith))
+      (head-stays o (omega arith) z (omega arith))
+      tables-put
+      (used-stays o (omega arith) z (λ i p q r s. omega arith))
+
+-- ---- the counts of the tables' rows are set to those of u
+module _ (w : List ℕ) (u : Used) (z : Sized w) where
+  used-put : usedOf (putUsed u w) ≡ u
+  used-put =
+      let keys : getD (putUsed u w) 10 0 ≡ u .keys = getD-set-other (set w 10 (u .keys)) 11 10 (u .counts) 0 (omega arith) ∙ getD-set-same w 10 (u .keys) 0 (omega arith) in
+      let counts : getD (putUsed u w) 11 0 ≡ u .counts = getD-set-same (set w 10 (u .keys)) 11 (u .counts) 0 (simp length-set (omega arith)) in
+      λ j. record { keys = keys j; counts = counts j }
+
+  pub used-moved : Moved w (putUsed u w) (withPrints (printsOf (limitsOf w .C) (tableWords w) u) (marketOf w))
+  unfolding marketOf
+  used-moved =
+      let o : Only 10 12 w (putUsed u w) = only-set 10 (u .keys) (u .counts) in
+      moved-to o (omega arith) z (λ p q. omega arith) (omega arith)
+      (log-stays o (omega arith) z (λ i p q r s. omega arith))
+      (head-stays o (omega arith) z (omega arith))
+      (tables-stay o (omega arith) z (λ i p q r s. omega arith))
+      used-put

@@ -1,0 +1,95 @@
+-- The print tables of a whole store: what the functions over them need, and what a move on them leaves of the market.
+use mathlib.Core.Path.{_≡_, refl, sym, ap, _∙_, subst}
+use mathlib.Core.List.{List}
+use mathlib.Core.Bool.{Bool, false}
+use Prim.Native.Nat.{ℕ, _+_, _-_, _*_, _<_}
+use native.Mathlib.Omega.{arith}
+use lib.ListN.{length}
+use Rattle.rules.specs.Quantities.{Key, maxCount}
+use Rattle.rules.specs.Prints.{Prints, deliveredIn}
+use Rattle.rules.specs.Calls.{noRow}
+use Rattle.rules.specs.Sound.{TablesSound}
+use Rattle.rules.specs.declared.Limits.{Limits}
+use Rattle.rules.specs.Lines.{withPrints}
+use Rattle.words.proofs.Parts.{part-length}
+use Rattle.prints.specs.declared.Used.{Used}
+use Rattle.prints.specs.Area.{printsOf, Fit, Fits, Free}
+use Rattle.prints.proofs.Tables.{free, fits}
+use Rattle.store.specs.Store.{limitsOf, usedOf, tablesAt, linesAt, tableWords, marketOf, Sound}
+use Rattle.store.specs.Moves.{Moved, Tabled}
+use Rattle.store.proofs.FrameLaws.{putTables, putUsed, moved-on, moved-is, tables-limits, tables-put, tables-moved, used-moved}
+use Rattle.store.proofs.EntryLaws.{counts}
+
+pub tabled : {w : List ℕ} → Sound w → Tabled w
+tabled s = record { sized = s .sized; counts = counts s; tables = s .market .prints .tables }
+
+module _ {w x : List ℕ} {u : Used} (t : Tabled w) (p : x ≡ tableWords w) (q : u ≡ usedOf w) where
+  -- the tables' words and the counts of rows mean the market's prints
+  pub prints-read : printsOf (limitsOf w .C) x u ≡ marketOf w .prints
+  unfolding marketOf
+  prints-read = λ j. printsOf (limitsOf w .C) (p j) (q j)
+
+  pub prints-say : {A : Type 0} (f : Prints → A) {r : A} → r ≡ f (printsOf (limitsOf w .C) x u) → r ≡ f (marketOf w .prints)
+  prints-say f e = e ∙ ap f prints-read
+
+  pub tables-fit : Fit (limitsOf w .C) (limitsOf w .D) x u
+  tables-fit =
+      let k = part-length (tablesAt (limitsOf w)) (linesAt (limitsOf w)) w (omega (arith, t .sized .long)) in
+      record {
+        size = ap length p ∙ k ∙ omega arith;
+        keys = omega (arith, ap (λ (y : Used). y .keys) q, t .counts .keys);
+        counts = omega (arith, ap (λ (y : Used). y .counts) q, t .counts .pairs);
+      }
+
+  pub tables-sound : TablesSound (printsOf (limitsOf w .C) x u)
+  tables-sound = subst TablesSound (sym prints-read) (t .tables)
+
+  -- what a function that searches the tables needs
+  pub tables-ready : Fits (limitsOf w .C) x u × TablesSound (printsOf (limitsOf w .C) x u)
+  tables-ready = (fits (limitsOf w .C) (limitsOf w .D) x u tables-fit, tables-sound)
+
+  pub no-row-done : (k : Key) (conn : ℕ) {r : Bool} → ((l : Limits) → l .C ≡ limitsOf w .C → l .D ≡ limitsOf w .D → r ≡ noRow k conn l (printsOf (limitsOf w .C) x u))
+      → r ≡ noRow k conn (marketOf w .limits) (marketOf w .prints)
+  unfolding marketOf
+  no-row-done k conn e = prints-say (noRow k conn (limitsOf w)) (e (limitsOf w) refl refl)
+
+  pub deliver-ready : (k : Key) (conn : ℕ) → noRow k conn (marketOf w .limits) (marketOf w .prints) ≡ false → deliveredIn k conn (marketOf w .prints .countRows) < maxCount
+      → Fits (limitsOf w .C) x u × (TablesSound (printsOf (limitsOf w .C) x u) × (Free (limitsOf w .C) x u k conn × (deliveredIn k conn (printsOf (limitsOf w .C) x u .countRows) < maxCount)))
+  unfolding marketOf
+  deliver-ready k conn n l =
+      let c = limitsOf w .C in
+      let r = prints-read in (
+        tables-ready .0,
+        (
+          tables-sound,
+          (
+            free c x u k conn (limitsOf w .D) (limitsOf w) refl refl tables-fit (ap (noRow k conn (limitsOf w)) r ∙ n),
+            subst (λ (p : Prints). deliveredIn k conn (p .countRows) < maxCount) (sym r) l,
+          ),
+        ),
+      )
+
+-- ---- moves
+
+module _ {w : List ℕ} {old : Used} (ys : List ℕ) (f : Prints → Prints) (t : Tabled w) (q : old ≡ usedOf w) (k : length ys ≡ length (tableWords w)) where
+  kept : length ys ≡ 4 * limitsOf w .C + 4 * limitsOf w .D
+  kept = k ∙ tables-fit t refl q .size
+
+  -- the tables' words are new
+  pub rows-done : printsOf (limitsOf w .C) ys old ≡ f (printsOf (limitsOf w .C) (tableWords w) old)
+      → Moved w (putTables ys w) (withPrints (f (marketOf w .prints)) (marketOf w))
+  rows-done e =
+      let read : printsOf (limitsOf w .C) ys (usedOf w) ≡ f (marketOf w .prints) = ap (printsOf (limitsOf w .C) ys) (sym q) ∙ e ∙ ap f (prints-read t refl q) in
+      moved-is refl (tables-moved w ys (t .sized) kept) (λ j. withPrints (read j) (marketOf w))
+
+  -- and so is how many rows are in use
+  pub tables-done : {v : List ℕ} (new : Used) → printsOf (limitsOf w .C) ys new ≡ f (printsOf (limitsOf w .C) (tableWords w) old)
+      → v ≡ putUsed new (putTables ys w)
+      → Moved w v (withPrints (f (marketOf w .prints)) (marketOf w))
+  unfolding marketOf
+  tables-done new e b =
+      let one = tables-moved w ys (t .sized) kept in
+      let two = used-moved (putTables ys w) new (one .sized) in
+      let read : printsOf (limitsOf (putTables ys w) .C) (tableWords (putTables ys w)) new ≡ f (marketOf w .prints) =
+      (λ j. printsOf (tables-limits w ys (t .sized) kept j .C) (tables-put w ys (t .sized) kept j) new) ∙ e ∙ ap f (prints-read t refl q) in
+      moved-is b (moved-on one two) (λ j. withPrints (read j) (one .market j))

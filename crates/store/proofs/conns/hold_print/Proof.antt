@@ -1,0 +1,33 @@
+use mathlib.Core.List.{[], _∷_, _++_}
+use Rattle.store.proofs.ConnLaws.{hold-print-ready, prints-done}
+use borrow.Author.Needs.{needs}
+use Rattle.store.proofs.conns.hold_print.Statement.{statement}
+use Rattle.store.proofs.conns.hold_print.Tie as tie
+
+hold-print-requires : tie.Need-hold-print-requires
+hold-print-requires c κs =
+    hold-print-ready _ _ _ (c .before .line-start .ensures .0) (c .before .before .before .before .before .pre)
+
+returns : tie.Need-returns
+returns c =
+    let s = c .before .before .before .before .before .before .before .before in
+    let a = c .before .before .before .before .line-start in
+    let f = c .before .before .hold-print in
+    prints-done _ _ _ (a .ensures .0) (s .pre .fits .at) (λ ps. ps ++ ((s .args .key, s .args .message) ∷ [])) (s .pre .unfailed) _ (f .kept .0) (f .ensures)
+
+pub hold-print-spec : {M : Type 1} → statement M
+hold-print-spec =
+    tie.close
+    (tie.spec
+    (λ c. search needs)
+    (λ c κs. search needs)
+    (λ c. search needs)
+    (λ c. search needs)
+    (λ c. search needs)
+    (λ c. search needs)
+    (λ c. search needs)
+    (λ c. search needs)
+    (λ c. search needs)
+    hold-print-requires
+    (λ c. search needs)
+    returns)

@@ -1,0 +1,16 @@
+use Rattle.rules.specs.Log.{stamp}
+use Rattle.store.proofs.EntryLaws.{head-done}
+use borrow.Author.Needs.{needs}
+use Rattle.store.proofs.entries.stamp.Statement.{statement}
+use Rattle.store.proofs.entries.stamp.Tie as tie
+
+returns : tie.Need-returns
+returns c =
+    let p = c .before .before .before .before in
+    let h = p .before in
+    let s = h .before .before .before in
+    head-done (p .stamp .result) (stamp (s .args .t)) (s .pre) (h .head .ensures) (p .stamp .ensures .0) (c .before .before .put-head .ensures)
+
+pub stamp-spec : {M : Type 1} → statement M
+stamp-spec =
+    tie.close (tie.spec (λ c κs. search needs) (λ c κs. search needs) (λ c κs. search needs) (λ c. search needs) returns)
