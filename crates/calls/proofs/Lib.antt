@@ -1,1 +1,2 @@
 pub mod OnWords
+pub mod SetupLaws

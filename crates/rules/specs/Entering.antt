@@ -88,7 +88,7 @@ lineUp i now p w =
 unfoldable pub tryLineUp : Bool → ℕ → ℕ → Work → Work
 tryLineUp quiet i now w = maybe w (λ p. lineUp i now p w) (aligns quiet ((connAt i (w .market)) .line) (w .market))
 
--- a round: n lines from the i-th on, rising; who becomes pending nobody does within it, so these are the lines pending at its start
+-- a round: n lines from the i-th on, rising. No line becomes pending within it, so it visits those pending at its start
 unfoldable pub round : ℕ → ℕ → ℕ → Work → Work
 round zero i now w = w
 round (suc n) i now w = round n (suc i) now (tryLineUp false i now w)
@@ -96,7 +96,7 @@ round (suc n) i now w = round n (suc i) now (tryLineUp false i now w)
 abbrev pub pendings : List Connection → ℕ
 pendings ls = length (keep (λ s. isPending (s .line)) ls)
 
--- rounds until one does nothing; a round that does something leaves fewer lines pending, so that n need not exceed the lines by more than 1
+-- rounds until one does nothing, at most n. A round that does something leaves fewer lines pending, so that one more than there are lines is enough
 unfoldable pub rounds : ℕ → ℕ → Work → Work
 rounds zero now w = w
 rounds (suc n) now w =
