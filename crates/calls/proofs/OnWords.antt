@@ -20,7 +20,8 @@ use Rattle.rules.specs.Demand.{books, bookKeys, History, follow, run, setUp, li
 use Rattle.rules.proofs.ListLaws.{append-nil}
 use Rattle.rules.proofs.Demand3.{demand3}
 use Rattle.store.specs.Store.{marketOf, Sound}
-use Rattle.calls.specs.Meets.{kindWord, kindOf, recordWords, recordsWords, recordOf, recordsIn, Lent, Does, Meets, SetsUp, MeetsSetup}
+use Rattle.output.specs.Output.{kindWord, kindOf, recordWords, recordsWords, recordOf, recordsIn}
+use Rattle.calls.specs.Meets.{Lent, Does, Meets, SetsUp, MeetsSetup}
 use Rattle.calls.specs.DemandOnWords.{Made, Chain, lastStore, callsOf, putOutBy, putOut, takenBy, taken, Accepted, DemandOn, Demand3OnWords}
 
 -- ---- records read back

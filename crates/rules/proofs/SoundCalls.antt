@@ -20,14 +20,14 @@ use Rattle.rules.specs.Entering.{Work, begin, onMarket, pushOut, putOut,
 use Rattle.rules.specs.Calls.{Answer, Outcome, apply, bookEvent, did, diverged, done, dropConn, dueEnds, dueFor, duplicate, failed, fullLog, fullNumbers, gone, held, holdPrint, ignored, just, kept, noRow, pendingAnew, print, printCounted, promote, refuse, refused, released, reset, snapshot, source, subscribe}
 use Rattle.rules.specs.Tick.{allOut, outOfLine}
 use Rattle.rules.specs.Refusals.{roomNeeded}
-use Rattle.rules.specs.Sound.{ConnSound, Known, LineSound, Lower, Sound}
+use Rattle.rules.specs.Sound.{holdings, ConnSound, Known, LineSound, Lower, Sound}
 use Rattle.rules.proofs.Tests.{by-cond, by-maybe, eqb-other, ff≢tt, leb-false, ltb-true, or-false-left, or-false-right}
 use Rattle.rules.proofs.ListLaws.{each-append, each-at, each-imp, each-keep, each-map, length-keep, rising-kept}
 use Rattle.rules.proofs.PrintsSound.{applyPrint-sound, counted-sound}
 use Rattle.rules.proofs.Invariant.{Sorted, sorted-map}
 use Rattle.rules.proofs.Sweep.{here}
 use Rattle.rules.proofs.CallsKept.{events-snap, source-law, subscribed-each, subscribed-sorted}
-use Rattle.rules.proofs.SoundMoves.{Bound, SoundW, events-le, grow-conns, holdings, holdings-bound, setConn-sound, sweep-sound, takeOver-sound, tryLineUp-sound}
+use Rattle.rules.proofs.SoundMoves.{Bound, SoundW, events-le, grow-conns, holdings-bound, setConn-sound, sweep-sound, takeOver-sound, tryLineUp-sound}
 use Rattle.rules.specs.declared.Item.the-variants as Item
 use Rattle.rules.specs.declared.Stamp.the-variants as Stamp
 

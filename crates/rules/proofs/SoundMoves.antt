@@ -18,7 +18,7 @@ use Rattle.rules.specs.Prints.{appliedIn, applyPrint, deliveredIn}
 use Rattle.rules.specs.Lines.{Connection, Failed, InLine, Line, Market, Pending, Waiting, connAt, eventKeys, events, fresh, itemCount, itemsOf, nobody, setConn, snapshotOf, someDue, withLog, withPrints}
 use Rattle.rules.specs.Place.{Place, alignment}
 use Rattle.rules.specs.Entering.{Work, aligns, enter, lineUp, noteEntry, onMarket, pendings, pushAll, pushOut, putItems, putOut, release, round, rounds, sweep, takeOver, tryLineUp}
-use Rattle.rules.specs.Sound.{ConnSound, LineSound, LinesSound, PrintsSound, Sound}
+use Rattle.rules.specs.Sound.{holds, holdings, ConnSound, LineSound, LinesSound, PrintsSound, Sound}
 use Rattle.rules.proofs.Tests.{by-cond, by-maybe, none≢some}
 use Rattle.rules.proofs.ListLaws.{each-imp, each-set}
 use Rattle.rules.proofs.PrintsSound.{applyPrint-sound, delivered-fits}
@@ -27,13 +27,6 @@ use Rattle.rules.proofs.Moves.{alignment-fits}
 use Rattle.rules.proofs.Sweep.{here}
 use Rattle.rules.proofs.Loops.{entered, release-lines}
 use Rattle.rules.specs.declared.Item.the-variants as Item
-
--- what a line can put out
-abbrev pub holds : Connection → ℕ
-holds s = length (itemsOf (s .line)) + length (s .held)
-
-abbrev pub holdings : List Connection → ℕ
-holdings ls = sum holds ls
 
 -- how much room there is for records, and the limits
 abbrev pub Bound : Type 0

@@ -18,12 +18,12 @@ use Rattle.rules.specs.Entering.{Work, aligns, begin, onMarket, sweep, t
 use Rattle.rules.specs.Calls.{Outcome, bookEvent, did, done, dropConn, just, print, promote, refuse, refused, reset, snapshot}
 use Rattle.rules.specs.Tick.{Turn, allOut, fails, on, outOfLine, quietLineUp, quietly, rebuildFrom, reportAligned, stop, tick, timeOut, turn, turns, upkeep}
 use Rattle.rules.specs.Refusals.{BookEvent, Call, Drop, Print, Promote, Reset, Snapshot, Subscribe, Tick, badAnswers, setup, short, step}
-use Rattle.rules.specs.Sound.{Leaves, SetupSound, Sound, SoundnessKept}
+use Rattle.rules.specs.Sound.{holdings, holds, Leaves, SetupSound, Sound, SoundnessKept}
 use Rattle.rules.proofs.Tests.{by-cond, by-stamped, ltb-false}
 use Rattle.rules.proofs.LogLaws.{old-le}
 use Rattle.rules.proofs.PrintsSound.{expirePrints-sound}
 use Rattle.rules.proofs.Sweep.{here}
-use Rattle.rules.proofs.SoundMoves.{Bound, SoundW, enter-sound, events-le, grow-conns, holdings, holds, pushed-none, sum-set, sweep-sound, takeOver-sound, tryLineUp-sound}
+use Rattle.rules.proofs.SoundMoves.{Bound, SoundW, enter-sound, events-le, grow-conns, pushed-none, sum-set, sweep-sound, takeOver-sound, tryLineUp-sound}
 use Rattle.rules.proofs.SoundCalls.{Safe, begin-sound, book-safe, drop-safe, just-safe, out-sound, print-safe, promote-safe, refuse-safe, reset-sound, roomFor, shrink, snapshot-safe, subscribe-safe}
 use Rattle.rules.specs.declared.Stamp.the-variants as Stamp
 

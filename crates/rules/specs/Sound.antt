@@ -7,10 +7,10 @@ use lib.ListN.{length}
 use Rattle.rules.specs.declared.Limits.{Limits}
 use Rattle.rules.specs.declared.Item.{Item}
 use Rattle.rules.specs.declared.Item.the-variants as Item
-use Rattle.rules.specs.Lists.{any, Each, Rising}
+use Rattle.rules.specs.Lists.{any, sum, Each, Rising}
 use Rattle.rules.specs.Quantities.{areaItems, inRange, maxCount, maxNumber}
 use Rattle.rules.specs.Prints.{KeyRow, CountRow, Prints, keyBefore, countBefore, ofKey}
-use Rattle.rules.specs.Lines.{Line, Waiting, Pending, InLine, Failed, Connection, Market, itemCount}
+use Rattle.rules.specs.Lines.{Line, Waiting, Pending, InLine, Failed, Connection, Market, itemsOf, itemCount}
 use Rattle.rules.specs.Calls.{Outcome, refused, did}
 use Rattle.rules.specs.Refusals.{Call, step, roomNeeded, setup}
 
@@ -28,6 +28,13 @@ LineSound l e Failed = Unit {0}
 
 abbrev pub ConnSound : Limits → ℕ → Connection → Type 0
 ConnSound l e s = LineSound l e (s .line) × (length (s .held) ≤ l .H)
+
+-- what a line can put out, and all lines
+abbrev pub holds : Connection → ℕ
+holds s = length (itemsOf (s .line)) + length (s .held)
+
+abbrev pub holdings : List Connection → ℕ
+holdings ls = sum holds ls
 
 abbrev pub Lower : Connection → Connection → Type 0
 Lower s t = s .conn < t .conn

@@ -31,7 +31,7 @@ fn line_start(s: &[u64], i: usize) -> usize
 }
 
 // The i-th line's words.
-fn line_words(s: &[u64], i: usize) -> &[u64]
+pub fn line_words(s: &[u64], i: usize) -> &[u64]
     requires { ⌜ LineAt (now s) i ⌝ }
     ensures { λ r. ⌜ now r ≡ lineWordsAt (now (s .entry)) i ⌝ }
 {

@@ -13,7 +13,7 @@ ghost use Rattle.store.specs.Store.{usedOf, tableWords, marketOf, Sized}
 ghost use Rattle.store.specs.Moves.{Moved, Tabled};
 
 // How many rows are in use.
-fn used(s: &[u64]) -> Used
+pub fn used(s: &[u64]) -> Used
     requires { ⌜ 64 ≤ length (now s) ⌝ }
     ensures { λ r. ⌜ r ≡ usedOf (now (s .entry)) ⌝ }
 {
@@ -33,7 +33,7 @@ fn put_used(s: &mut [u64], used: Used)
 }
 
 // The words of both tables.
-fn area(s: &[u64]) -> &[u64]
+pub fn area(s: &[u64]) -> &[u64]
     requires { ⌜ Sized (now s) ⌝ }
     ensures { λ r. ⌜ now r ≡ tableWords (now (s .entry)) ⌝ }
 {

@@ -1,8 +1,8 @@
-use Rattle.calls.proofs.SetupLaws.{bounds}
+use Rattle.sound.proofs.RangeLaws.{bounds}
 use native.Mathlib.Omega.{arith}
 use borrow.Author.Needs.{needs}
-use Rattle.calls.proofs.words_needed.Statement.{statement}
-use Rattle.calls.proofs.words_needed.Tie as tie
+use Rattle.sound.proofs.words_needed.Statement.{statement}
+use Rattle.sound.proofs.words_needed.Tie as tie
 
 mul-result : tie.Need-mul-result
 mul-result c = let b = bounds (c .before .args .l) (c .before .pre) in omega arith

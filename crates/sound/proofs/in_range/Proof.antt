@@ -1,7 +1,7 @@
 use Rattle.rules.specs.Quantities.{inRange}
 use mathlib.Core.Path.{refl}
-use Rattle.calls.proofs.in_range.Statement.{statement}
-use Rattle.calls.proofs.in_range.Tie as tie
+use Rattle.sound.proofs.in_range.Statement.{statement}
+use Rattle.sound.proofs.in_range.Tie as tie
 
 returns : tie.Need-returns
 unfolding inRange

@@ -1,0 +1,4 @@
+pub mod RangeLaws
+pub mod HeaderLaws
+pub mod LineLaws
+pub mod WholeLaws

@@ -1,0 +1,45 @@
+use mathlib.Core.Path.{_≡_, sym, _∙_}
+use mathlib.Core.Bool.{true}
+use native.Mathlib.Omega.{arith}
+use Rattle.rules.specs.Quantities.{inRange}
+use borrow.Author.Tests.{not-true, not-false}
+use Rattle.sound.proofs.HeaderLaws.{outside, short, ranged}
+use borrow.Author.Needs.{needs}
+use Rattle.sound.proofs.sized.Statement.{statement}
+use Rattle.sound.proofs.sized.Tie as tie
+
+-- the limits' test
+in-range-told : (c : tie.Else2) → inRange (c .before .before .limits .result) ≡ true
+in-range-told c = sym (c .before .in-range .ensures) ∙ not-false (c .before .in-range .result) (c .if2 .left)
+
+returns-2 : tie.Need-returns-2
+returns-2 c =
+    let l = c .before .before in
+    outside (l .before .before .before .args .s .now) (l .limits .result) (l .limits .ensures) (sym (c .before .in-range .ensures) ∙ not-true (c .before .in-range .result) (c .if2 .taken))
+
+words-needed-requires : tie.Need-words-needed-requires
+words-needed-requires c κs = in-range-told c
+
+returns-3 : tie.Need-returns-3
+returns-3 c =
+    let l = c .before .before .before .before in
+    let n = c .before .words-needed .ensures in
+    short (l .before .before .before .args .s .now) (l .limits .result) (l .limits .ensures) (omega arith)
+
+returns-4 : tie.Need-returns-4
+returns-4 c =
+    let l = c .before .before .before .before in
+    let n = c .before .words-needed .ensures in
+    ranged (l .before .before .before .args .s .now) (l .limits .result) (l .limits .ensures) (omega arith) (in-range-told (c .before .before)) (omega arith)
+
+pub sized-spec : {M : Type 1} → statement M
+sized-spec =
+    tie.close
+    (tie.spec
+    (λ c. search needs)
+    (λ c κs. search needs)
+    (λ c κs. search needs)
+    returns-2
+    words-needed-requires
+    returns-3
+    returns-4)
