@@ -42,7 +42,16 @@ pub fn put_record(out: &mut [u64], n: usize, r: Applied) -> usize
     let kind = r.kind;
     let word = kind_word(kind);
     let key = r.key;
-    put7(&mut out[a..e], r.conn, word, r.number, key.0, key.1, r.message, r.times);
+    put7(
+        &mut out[a..e],
+        r.conn,
+        word,
+        r.number,
+        key.0,
+        key.1,
+        r.message,
+        r.times,
+    );
     n + 1
 }
 

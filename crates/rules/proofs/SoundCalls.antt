@@ -54,7 +54,7 @@ begin-sound m s = record { sound = s; limits = refl; spent = let a = holdings-fi
 pub just-safe : (m : Market) (a : Answer) → Sound m → Safe (m .limits) (just a m)
 just-safe m a s = (begin-sound m s, omega arith)
 
-released-safe : (l : Limits) (a : Answer) (now : ℕ) (w : Work) → SoundW (roomFor l) w → Safe l (released a now w)
+pub released-safe : (l : Limits) (a : Answer) (now : ℕ) (w : Work) → SoundW (roomFor l) w → Safe l (released a now w)
 released-safe l a now w s = by-cond (Safe l) (nil (w .out)) (λ q. (s, omega arith)) (λ q. (sweep-sound (roomFor l) now w s, omega arith))
 
 -- fewer lines, or lines with fewer items
@@ -62,7 +62,7 @@ less-sound : (m : Market) (ls : List Connection) → Sound m → length ls ≤ m
 less-sound m ls s a b c d = let x = s .lines .logFits in let y = s .lines .numbersFit in
     record { limitsFit = s .limitsFit; lines = record { linesFit = a; rises = b; conns = c; logFits = omega arith; numbersFit = omega arith }; prints = s .prints }
 
-clear-sound : (m : Market) → Sound m → Sound (withLog (clear (m .log)) m)
+pub clear-sound : (m : Market) → Sound m → Sound (withLog (clear (m .log)) m)
 clear-sound m s = let x = s .lines .logFits in let y = s .lines .numbersFit in
     record {
       limitsFit = s .limitsFit;
@@ -76,10 +76,10 @@ clear-sound m s = let x = s .lines .logFits in let y = s .lines .numbersFit in
       prints = s .prints;
     }
 
-line-at : (m : Market) (i : ℕ) (l : Line) → (connAt i m) .line ≡ l → isFailed l ≡ false → Sound m → LineSound (m .limits) (end (m .log)) l
+pub line-at : (m : Market) (i : ℕ) (l : Line) → (connAt i m) .line ≡ l → isFailed l ≡ false → Sound m → LineSound (m .limits) (end (m .log)) l
 line-at m i l e f s = subst (LineSound (m .limits) (end (m .log))) e ((each-at (ConnSound (m .limits) (end (m .log))) (m .lines) i nobody (here i m l e f) (s .lines .conns)) .0)
 
-held-at : (m : Market) (i : ℕ) → i < length (m .lines) → Sound m → length ((connAt i m) .held) ≤ m .limits .H
+pub held-at : (m : Market) (i : ℕ) → i < length (m .lines) → Sound m → length ((connAt i m) .held) ≤ m .limits .H
 held-at m i lt s = (each-at (ConnSound (m .limits) (end (m .log))) (m .lines) i nobody lt (s .lines .conns)) .1
 
 -- a line without items, or with no more than it had
@@ -88,7 +88,7 @@ pub shrink : (m : Market) (i : ℕ) (line : Line) (hs : List (Key × ℕ)) → S
 shrink m i line hs s lt ok hh le = let x = s .lines .logFits in let y = s .lines .numbersFit in setConn-sound m i line hs s lt ok hh (omega arith) (omega arith)
 
 -- one item more, where there is room
-store : (m : Market) (i : ℕ) (line : Line) → Sound m → i < length (m .lines) → LineSound (m .limits) (end (m .log)) line
+pub store : (m : Market) (i : ℕ) (line : Line) → Sound m → i < length (m .lines) → LineSound (m .limits) (end (m .log)) line
     → length (itemsOf line) ≡ suc (length (itemsOf ((connAt i m) .line))) → fullLog m ≡ false → fullNumbers m ≡ false → Sound (setLine i line m)
 store m i line s lt ok q f₅ f₉ =
     let a : length (m .log .entries) + itemCount (m .lines) < m .limits .G = leb-false f₅ in
@@ -315,7 +315,7 @@ book-safe i k msg now m (InLine n a b) e s =
     )))))
 
 -- ---- Print
-holdPrint-safe : (i : ℕ) (k : Key) (msg : ℕ) (m : Market) (l : Line) → (connAt i m) .line ≡ l → isFailed l ≡ false → Sound m → Safe (m .limits) (holdPrint i k msg m)
+pub holdPrint-safe : (i : ℕ) (k : Key) (msg : ℕ) (m : Market) (l : Line) → (connAt i m) .line ≡ l → isFailed l ≡ false → Sound m → Safe (m .limits) (holdPrint i k msg m)
 unfolding holdPrint
 holdPrint-safe i k msg m l e f s =
     let lt = here i m l e f in
@@ -328,7 +328,7 @@ holdPrint-safe i k msg m l e f s =
     (shrink m i ((connAt i m) .line) ((connAt i m) .held ++ ((k, msg) ∷ [])) s lt
     ((each-at (ConnSound (m .limits) (end (m .log))) (m .lines) i nobody lt (s .lines .conns)) .0) (omega arith) (omega arith))))
 
-printCounted-safe : (i c : ℕ) (k : Key) (msg d a : ℕ) (m : Market) (l : Line) → (connAt i m) .line ≡ l → d ≤ maxCount → Sound m → Safe (m .limits) (printCounted i c k msg d a m l)
+pub printCounted-safe : (i c : ℕ) (k : Key) (msg d a : ℕ) (m : Market) (l : Line) → (connAt i m) .line ≡ l → d ≤ maxCount → Sound m → Safe (m .limits) (printCounted i c k msg d a m l)
 unfolding printCounted
 printCounted-safe i c k msg d a m Failed e df s = just-safe m ignored s
 printCounted-safe i c k msg d a m (InLine n x y) e df s = by-cond (Safe (m .limits)) (leb d a) (λ q. just-safe m duplicate s)
@@ -372,11 +372,15 @@ keep-items : (t : Connection → Bool) (ls : List Connection) → itemCount (kee
 keep-items t [] = omega arith
 keep-items t (x ∷ xs) = let h = keep-items t xs in by-cond (λ (l : List Connection). itemCount l ≤ itemCount (x ∷ xs)) (t x) (λ e. omega arith) (λ e. omega arith)
 
+pub dropped-sound : (c : ℕ) (m : Market) → Sound m → Sound (withLines (keep (λ x. not (eqb (x .conn) c)) (m .lines)) m)
+dropped-sound c m s =
+    let t : Connection → Bool = λ x. not (eqb (x .conn) c) in
+    less-sound m (keep t (m .lines)) s (let z = length-keep t (m .lines) in let y = s .lines .linesFit in omega arith)
+    (rising-kept Lower t (m .lines) (s .lines .rises)) (each-keep (ConnSound (m .limits) (end (m .log))) t (m .lines) (s .lines .conns)) (keep-items t (m .lines))
+
 pub drop-safe : (c now : ℕ) (m : Market) → Sound m → Safe (m .limits) (dropConn c now m)
 unfolding dropConn
 drop-safe c now m s =
-    let t : Connection → Bool = λ x. not (eqb (x .conn) c) in
-    let m′ = withLines (keep t (m .lines)) m in
-    let s′ : Sound m′ = less-sound m (keep t (m .lines)) s (let z = length-keep t (m .lines) in let y = s .lines .linesFit in omega arith)
-    (rising-kept Lower t (m .lines) (s .lines .rises)) (each-keep (ConnSound (m .limits) (end (m .log))) t (m .lines) (s .lines .conns)) (keep-items t (m .lines)) in
+    let m′ = withLines (keep (λ x. not (eqb (x .conn) c)) (m .lines)) m in
+    let s′ = dropped-sound c m s in
     by-cond (Safe (m .limits)) (isInLine ((connAt (lineOf c m) m) .line)) (λ q. promote-safe now m′ s′) (λ q. just-safe m′ kept s′)

@@ -69,13 +69,14 @@ grow-conns l e e′ ls q h = each-imp (ConnSound l e) (ConnSound l e′) (λ s t
 
 -- ---- release
 
-record Rel (w w′ : Work) (n : ℕ) : Type 0 where
-  limits : w′ .market .limits ≡ w .market .limits
-  log : w′ .market .log ≡ w .market .log
-  out : length (w′ .out) ≤ length (w .out) + n
-  prints : (l : Limits) → PrintsSound l (w .market .prints) → PrintsSound l (w′ .market .prints)
+-- a release: at most n records more, and nothing of the market changed but the prints, which stay sound
+pub record Rel (w w′ : Work) (n : ℕ) : Type 0 where
+  pub limits : w′ .market .limits ≡ w .market .limits
+  pub log : w′ .market .log ≡ w .market .log
+  pub out : length (w′ .out) ≤ length (w .out) + n
+  pub prints : (l : Limits) → PrintsSound l (w .market .prints) → PrintsSound l (w′ .market .prints)
 
-release-rel : (c : ℕ) (hs : List (Key × ℕ)) (w : Work) → Rel w (release c hs w) (length hs)
+pub release-rel : (c : ℕ) (hs : List (Key × ℕ)) (w : Work) → Rel w (release c hs w) (length hs)
 unfolding release
 release-rel c [] w = record { limits = refl; log = refl; out = omega arith; prints = λ l r. r }
 release-rel c (h ∷ hs) w =
@@ -128,7 +129,7 @@ pushOut-pushed c now k msg w = record {
   out = length-append (w .out) (bookOut c (end (w .market .log)) k msg ∷ []);
 }
 
-pushAll-pushed : (c now : ℕ) (es : List (Key × ℕ)) (w : Work) → Pushed w (pushAll c now es w) (length es) (length es)
+pub pushAll-pushed : (c now : ℕ) (es : List (Key × ℕ)) (w : Work) → Pushed w (pushAll c now es w) (length es) (length es)
 unfolding pushAll
 pushAll-pushed c now [] w = pushed-none w
 pushAll-pushed c now (e ∷ es) w =
@@ -136,7 +137,7 @@ pushAll-pushed c now (e ∷ es) w =
     let q : 1 + length es ≡ suc (length es) = omega arith in
     subst (λ n. Pushed w (pushAll c now es (pushOut c now (e .0) (e .1) w)) n n) q p
 
-putItems-pushed : (c now : ℕ) (is : List Item) (w : Work) → Pushed w (putItems c now is w) (length (events is)) (length is)
+pub putItems-pushed : (c now : ℕ) (is : List Item) (w : Work) → Pushed w (putItems c now is w) (length (events is)) (length is)
 unfolding putItems
 putItems-pushed c now [] w = pushed-none w
 putItems-pushed c now (Item.Snapshot t msg ∷ is) w =
@@ -234,7 +235,7 @@ tryLineUp-sound Z quiet i now w s = go ((connAt i (w .market)) .line) refl
         un true p h = absurd (none≢some h)
         un false p h = h
 
-round-sound : (Z : Bound) (n i now : ℕ) (w : Work) → SoundW Z w → SoundW Z (round n i now w)
+pub round-sound : (Z : Bound) (n i now : ℕ) (w : Work) → SoundW Z w → SoundW Z (round n i now w)
 unfolding round
 round-sound Z zero i now w s = s
 round-sound Z (suc n) i now w s = round-sound Z n (suc i) now (tryLineUp false i now w) (tryLineUp-sound Z false i now w s)

@@ -25,6 +25,12 @@ pub record Moved (from : ℕ) (v w : List ℕ) (i : ℕ) : Type 0 where
   pub done : (j : ℕ) → j < i → getD w j 0 ≡ getD v (from + j) 0
   pub rest : (j : ℕ) → i ≤ j → getD w j 0 ≡ getD v j 0
 
+-- w is v with its words from i on and below n copied `to` places higher
+pub record MovedUp (to : ℕ) (v w : List ℕ) (i n : ℕ) : Type 0 where
+  pub size : length w ≡ length v
+  pub done : (j : ℕ) → i ≤ j → j < n → getD w (to + j) 0 ≡ getD v j 0
+  pub rest : (j : ℕ) → j < to + i → getD w j 0 ≡ getD v j 0
+
 -- a test's answer says whether P
 abbrev pub Says : Bool → Type 0 → Type 0
 Says true P = P

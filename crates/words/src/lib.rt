@@ -3,7 +3,7 @@ ghost use Prim.Native.Nat.{ℕ, _+_, _≤_};
 ghost use lib.ListN.{length};
 ghost use mathlib.Core.Path.{_≡_};
 ghost use mathlib.Core.List.{List, [], _∷_};
-ghost use Rattle.words.specs.Words.{Moved};
+ghost use Rattle.words.specs.Words.{Moved, MovedUp};
 
 // Moves the n words from `from` to the front.
 pub fn move_down(s: &mut [u64], from: usize, n: usize)
@@ -14,6 +14,18 @@ pub fn move_down(s: &mut [u64], from: usize, n: usize)
     while i < n {
         s[i] = s[from + i];
         i += 1;
+    }
+}
+
+// Moves the first n words up by `to` places, the last one first.
+pub fn move_up(s: &mut [u64], to: usize, n: usize)
+    requires { ⌜ to + n ≤ length (now s) ⌝ }
+    ensures { λ r. ⌜ MovedUp to (now (s .entry)) (now (s .exit)) 0 n ⌝ }
+{
+    let mut i = n;
+    while 0 < i {
+        i -= 1;
+        s[to + i] = s[i];
     }
 }
 

@@ -1,0 +1,12 @@
+pub mod DoesLaws
+pub mod LeftLaws
+pub mod StoreReads
+pub mod LiningReads
+pub mod EnteringLaws
+pub mod Staying
+pub mod PutLaws
+pub mod ReleaseLaws
+pub mod EnterLaws
+pub mod PushLaws
+pub mod LineUpLaws
+pub mod LiningLaws

@@ -1,0 +1,62 @@
+use Prim.Native.Nat.{_-_}
+use native.Mathlib.Omega.{arith}
+use Rattle.store.proofs.ConnLaws.{lined-sound}
+use Rattle.moves.proofs.LiningLaws.{RoundTo, round-start, round-on, round-done}
+use Rattle.moves.proofs.lining_up.round.Statement.{statement}
+use Rattle.moves.proofs.lining_up.round.Tie as tie
+
+abbrev Inv-loop : tie.InvT-loop
+Inv-loop s₀ out₀ n t lines m₀ i₀ s out m i = RoundTo t s₀ out₀ n s out m i
+
+abbrev μ-loop : tie.MeasureT-loop
+μ-loop s₀ out₀ n t lines m₀ i₀ s out m i = lines - i
+
+slice-read-lines : tie.Need-slice-read-lines Inv-loop μ-loop
+slice-read-lines c = let z = c .before .before .before .pre .sound .sized in omega arith
+
+loop-holds : tie.Need-loop-holds Inv-loop μ-loop
+loop-holds c = let s = c .before .before .before in round-start (s .args .t) (s .pre)
+
+try-line-up-requires : tie.Need-try-line-up-requires Inv-loop μ-loop
+try-line-up-requires c κs = let l = c .before .before .before .loop in (l .inv .ready, omega (arith, l .inv .lines))
+
+add-i : tie.Need-add-i Inv-loop μ-loop
+add-i c =
+    let s = c .before .before .before .before .before .before .before .before .before .before .before .before in
+    let l = lined-sound (s .args .s .now) (s .pre .sound) in
+    omega arith
+
+loop-again : tie.Need-loop-again Inv-loop μ-loop
+loop-again c =
+    let t = c .before .before .before .before .try-line-up in
+    let l = c .before .before .before .before .before .before .before .before in
+    let s = l .before .before .before .before in
+    round-on (s .args .t) (s .pre) (l .loop .inv) (omega arith) (t .kept .0) (t .kept .1 .0) (t .ensures)
+
+same-length : tie.Need-same-length Inv-loop μ-loop
+same-length c = c .before .loop .inv .size
+
+same-length-2 : tie.Need-same-length-2 Inv-loop μ-loop
+same-length-2 c = c .before .loop .inv .room
+
+returns : tie.Need-returns Inv-loop μ-loop
+returns c =
+    let l = c .before in
+    let s = l .before .before .before .before in
+    round-done (s .args .t) (s .pre) (l .loop .inv) (omega arith)
+
+pub round-spec : {M : Type 1} → statement M
+round-spec =
+    tie.close
+    (tie.spec
+    Inv-loop
+    μ-loop
+    slice-read-lines
+    loop-holds
+    try-line-up-requires
+    add-i
+    (λ c. omega arith)
+    loop-again
+    same-length
+    same-length-2
+    returns)
