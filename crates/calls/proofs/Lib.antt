@@ -1,2 +1,3 @@
 pub mod OnWords
 pub mod SetupLaws
+pub mod CallLaws

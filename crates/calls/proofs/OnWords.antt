@@ -21,7 +21,8 @@ use Rattle.rules.proofs.ListLaws.{append-nil}
 use Rattle.rules.proofs.Demand3.{demand3}
 use Rattle.store.specs.Store.{marketOf, Sound}
 use Rattle.output.specs.Output.{kindWord, kindOf, recordWords, recordsWords, recordOf, recordsIn}
-use Rattle.calls.specs.Meets.{Lent, Does, Meets, SetsUp, MeetsSetup}
+use Rattle.market.specs.Lent.{Lent, Leaves}
+use Rattle.calls.specs.Meets.{Meets, SetsUp, MeetsSetup}
 use Rattle.calls.specs.DemandOnWords.{Made, Chain, lastStore, callsOf, putOutBy, putOut, takenBy, taken, Accepted, DemandOn, Demand3OnWords}
 
 -- ---- records read back
@@ -52,9 +53,9 @@ stepped : (w : List ℕ) (d : Made) → d .before .store ≡ w → Sound w → M
     → Stepped (marketOf w) (step (d .call) (marketOf w)) d
 stepped w d e s m =
     subst (λ v. Stepped (marketOf v) (step (d .call) (marketOf v)) d) e
-    (let r = m .sound (subst Sound (sym e) s) in go (step (d .call) (marketOf (d .before .store))) (r .0) (r .1))
+    (let r = m .sound (subst Sound (sym e) s) in go (step (d .call) (marketOf (d .before .store))) (r .said) (r .left))
   where
-    go : (o : Outcome) → d .answer ≡ saidBy o → Does o (d .before) (d .after) → Stepped (marketOf (d .before .store)) o d
+    go : (o : Outcome) → d .answer ≡ saidBy o → Leaves o (d .before) (d .after) → Stepped (marketOf (d .before .store)) o d
     go (refused n) a q =
         record {
           answer = a;

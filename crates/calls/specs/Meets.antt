@@ -3,45 +3,32 @@ use mathlib.Core.Path.{_≡_}
 use mathlib.Core.List.{List}
 use mathlib.Core.Option.{Option, none, some}
 use mathlib.Core.Bool.{Bool}
-use Prim.Native.Nat.{ℕ}
+use Prim.Native.Nat.{ℕ, _/_}
 use lib.ListN.{length}
 use Rattle.rules.specs.declared.Limits.{Limits}
 use Rattle.rules.specs.declared.Asked.{Asked}
 use Rattle.rules.specs.declared.Asked.the-variants as Asked
 use Rattle.rules.specs.declared.Viewed.{Viewed}
 use Rattle.rules.specs.declared.Viewed.the-variants as Viewed
-use Rattle.rules.specs.declared.Expired.{Expired}
-use Rattle.rules.specs.Entering.{Work}
 use Rattle.rules.specs.Calls.{Outcome, refused, did}
 use Rattle.rules.specs.Lines.{Market}
 use Rattle.rules.specs.Refusals.{Call, step, setup, view}
 use Rattle.rules.specs.Answers.{Said, number, saidBy, asked, viewed}
 use Rattle.store.specs.Store.{marketOf, Sound}
-use Rattle.output.specs.Output.{recordsWords, reportsWords, over}
+use Rattle.output.specs.Output.{over}
+use Rattle.market.specs.Lent.{Lent, Answers}
 
--- ---- what is lent to a call: the store, the output list, the list of reports (empty for a call that takes none)
+-- how many records an output list takes, and how many reports a list of reports
+abbrev pub records : List ℕ → ℕ
+records v = length v / 7
 
-pub record Lent : Type 0 where
-  pub store : List ℕ
-  pub out : List ℕ
-  pub reports : List ℕ
-
--- a call that is not refused leaves what the rules make of it
-pub record Left (w : Work) (rs : List Expired) (before after : Lent) : Type 0 where
-  pub market : marketOf (after .store) ≡ w .market
-  pub sound : Sound (after .store)
-  pub size : length (after .store) ≡ length (before .store)
-  pub out : after .out ≡ over (recordsWords (w .out)) (before .out)
-  pub reports : after .reports ≡ over (reportsWords rs) (before .reports)
-
-abbrev pub Does : Outcome → Lent → Lent → Type 0
-Does (refused n) before after = after ≡ before
-Does (did a rs w) before after = Left w rs before after
+abbrev pub reportRoom : List ℕ → ℕ
+reportRoom v = length v / 3
 
 -- an unsound store is refused with 1 and nothing lent changes; on a sound one answer and words are the rules'
 pub record Meets (x : Call) (before : Lent) (answer : Said) (after : Lent) : Type 0 where
   pub unsound : (Sound (before .store) → ⊥) → (answer ≡ number 1) × (after ≡ before)
-  pub sound : Sound (before .store) → (answer ≡ saidBy (step x (marketOf (before .store)))) × Does (step x (marketOf (before .store))) before after
+  pub sound : Sound (before .store) → Answers (step x (marketOf (before .store))) before answer after
 
 -- ---- setup, the queries and view
 

@@ -27,11 +27,11 @@ use Rattle.rules.proofs.SoundMoves.{Bound, SoundW, enter-sound, events-
 use Rattle.rules.proofs.SoundCalls.{Safe, begin-sound, book-safe, drop-safe, just-safe, out-sound, print-safe, promote-safe, refuse-safe, reset-sound, roomFor, shrink, snapshot-safe, subscribe-safe}
 use Rattle.rules.specs.declared.Stamp.the-variants as Stamp
 
-abbrev SafeTurn : Bound → Turn → Type 0
+abbrev pub SafeTurn : Bound → Turn → Type 0
 SafeTurn Z (on rs w) = SoundW Z w × (length rs ≤ 1)
 SafeTurn Z (stop rs w) = SoundW Z w × (length rs ≤ 1)
 
-upkeep-sound : (now : ℕ) (m : Market) → Sound m → Sound (upkeep now m)
+pub upkeep-sound : (now : ℕ) (m : Market) → Sound m → Sound (upkeep now m)
 upkeep-sound now m s =
     let n = old now (m .log .entries) in
     let a = old-le now (m .log .entries) in
@@ -59,7 +59,7 @@ fails-safe Z i w l e f s =
     let sp = s .spent in
     (record { sound = shrink m i Failed [] (s .sound) lt tt (omega arith) (omega arith); limits = s .limits; spent = omega arith }, omega arith)
 
-map-holdings : (f : Connection → Connection) → ((x : Connection) → holds (f x) ≤ holds x) → (ls : List Connection) → holdings (map f ls) ≤ holdings ls
+pub map-holdings : (f : Connection → Connection) → ((x : Connection) → holds (f x) ≤ holds x) → (ls : List Connection) → holdings (map f ls) ≤ holdings ls
 map-holdings f h [] = omega arith
 map-holdings f h (x ∷ xs) = let a = h x in let b = map-holdings f h xs in omega arith
 
@@ -104,7 +104,7 @@ waiting-safe : (Z : Bound) (i : ℕ) (is : List Item) (since now : ℕ) (w : Wor
 unfolding timeOut
 waiting-safe Z i is since now w e s = by-cond (SafeTurn Z) (leb alignTimeout (age now since)) (λ q. fails-safe Z i w (Waiting is since) e refl s) (λ q. (s, omega arith))
 
-turn-safe : (Z : Bound) (i : ℕ) (due sameView : Bool) (now : ℕ) (w : Work) (l : Line) → (connAt i (w .market)) .line ≡ l → SoundW Z w → SafeTurn Z (turn i due sameView now w l)
+pub turn-safe : (Z : Bound) (i : ℕ) (due sameView : Bool) (now : ℕ) (w : Work) (l : Line) → (connAt i (w .market)) .line ≡ l → SoundW Z w → SafeTurn Z (turn i due sameView now w l)
 unfolding turn
 turn-safe Z i due sameView now w (InLine n a b) e s = by-cond (SafeTurn Z) (ltb n (w .market .log .base)) (λ q. fails-safe Z i w (InLine n a b) e refl s) (λ q. (s, omega arith))
 turn-safe Z i due sameView now w (Waiting is since) e s = waiting-safe Z i is since now w e s
@@ -120,7 +120,7 @@ turn-safe Z i due sameView now w (Pending is at since) e s =
     (λ z. pending-safe Z i is at since now w e s)))
     (λ q. pending-safe Z i is at since now w e s)
 
-turns-safe : (l : Limits) (n i : ℕ) (due : Bool) (answers : List ℕ) (now : ℕ) (rs : List Expired) (w : Work) → SoundW (roomFor l) w → length rs + n ≤ l .L → Safe l (turns n i due answers now rs w)
+pub turns-safe : (l : Limits) (n i : ℕ) (due : Bool) (answers : List ℕ) (now : ℕ) (rs : List Expired) (w : Work) → SoundW (roomFor l) w → length rs + n ≤ l .L → Safe l (turns n i due answers now rs w)
 unfolding turns
 turns-safe l zero i due answers now rs w s h = (s, omega arith)
 turns-safe l (suc n) i due answers now rs w s h =

@@ -1,0 +1,4 @@
+pub mod Lent
+pub mod Claims
+pub mod Settled
+pub mod Turns

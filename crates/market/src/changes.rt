@@ -1,0 +1,32 @@
+// Subscribe and reset, on a sound store.
+use rules::Changed;
+ghost use Rattle.rules.specs.Calls as Rules;
+ghost use Rattle.rules.specs.Calls.{just, done};
+ghost use Rattle.rules.specs.Answers.{ofChanged};
+ghost use Rattle.store.specs.Store.{marketOf, Sound};
+ghost use Rattle.market.specs.Lent.{alone, Answers};
+
+// The connection's line becomes Waiting, empty, since t.
+pub fn subscribe(s: &mut [u64], conn: u64, t: u64) -> Changed
+    requires { ⌜ Sound (now s) ⌝ }
+    ensures { λ r. ⌜ Answers (Rules.subscribe conn t (marketOf (now (s .entry)))) (alone (now (s .entry))) (ofChanged r) (alone (now (s .exit))) ⌝ }
+{
+    let lines = s[9] as usize;
+    let i = store::conns::find(s, conn);
+    let full = (lines <= i) & (s[0] <= s[9]);
+    if full {
+        return Changed::Refused(4);
+    }
+    line_list::subscribe(s, conn, t);
+    Changed::Done
+}
+
+// Empties the log; every line but a Failed one becomes Pending, empty, since t.
+pub fn reset(s: &mut [u64], t: u64) -> Changed
+    requires { ⌜ Sound (now s) ⌝ }
+    ensures { λ r. ⌜ Answers (just done (Rules.reset t (marketOf (now (s .entry))))) (alone (now (s .entry))) (ofChanged r) (alone (now (s .exit))) ⌝ }
+{
+    store::entries::clear(s);
+    line_list::reset(s, t);
+    Changed::Done
+}

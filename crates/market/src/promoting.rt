@@ -1,0 +1,133 @@
+// Promote and drop, on a sound store.
+use crate::Claim;
+use crate::Source;
+use lines::Line;
+use rules::Lost;
+use rules::Stamp;
+ghost use mathlib.Core.Path.{_≡_};
+ghost use Prim.Native.Nat.{ℕ, _<_};
+ghost use Rattle.rules.specs.Calls as Rules;
+ghost use Rattle.rules.specs.Calls.{claim, better};
+ghost use Rattle.rules.specs.Lines.{connAt};
+ghost use Rattle.rules.specs.Answers.{ofLost};
+ghost use Rattle.store.specs.Store.{lineCount, marketOf, Sound};
+ghost use Rattle.store.specs.ConnMoves.{LineFits, Lined};
+ghost use Rattle.market.specs.Lent.{lent, Answers, Roomy};
+ghost use Rattle.market.specs.Claims.{claimOf, sourceOf};
+
+// The i-th line's claim.
+fn claim_of(s: &[u64], i: usize) -> Claim
+    requires { ⌜ LineFits (now s) i ⌝ }
+    ensures { λ r. ⌜ claimOf r ≡ claim ((connAt i (marketOf (now (s .entry)))) .line) ⌝ }
+{
+    let line = store::conns::line_at(s, i);
+    match line {
+        Line::Waiting { items, since } => {
+            if place::holds_snapshot(moves::reads::items(s, i), items) {
+                return Claim::Of {
+                    pending: 0,
+                    time: since,
+                };
+            }
+            Claim::Nothing
+        }
+        Line::Pending { snapshot, .. } => match snapshot {
+            Stamp::Never => Claim::Nothing,
+            Stamp::At(time) => Claim::Of { pending: 1, time },
+        },
+        Line::InLine { .. } => Claim::Nothing,
+        Line::Failed => Claim::Nothing,
+    }
+}
+
+// Whether one claim is below another.
+fn below(a: u64, x: u64, b: u64, y: u64) -> bool
+    ensures { λ r. ⌜ r ≡ Rules.below (a, x) (b, y) ⌝ }
+{
+    if a == b {
+        return x < y;
+    }
+    a < b
+}
+
+// The better of the i-th line's claim and the best of those behind it.
+fn better_of(i: usize, claim: Claim, best: Source) -> Source
+    ensures { λ r. ⌜ sourceOf r ≡ better i (claimOf claim) (sourceOf best) ⌝ }
+{
+    match claim {
+        Claim::Nothing => best,
+        Claim::Of { pending, time } => match best {
+            Source::Nobody => Source::Best {
+                line: i,
+                pending,
+                time,
+            },
+            Source::Best {
+                line,
+                pending: p,
+                time: t,
+            } => {
+                if below(pending, time, p, t) {
+                    return Source::Best {
+                        line,
+                        pending: p,
+                        time: t,
+                    };
+                }
+                Source::Best {
+                    line: i,
+                    pending,
+                    time,
+                }
+            }
+        },
+    }
+}
+
+// The line with the best claim; of equal ones the lowest connection's.
+fn source(s: &[u64]) -> Source
+    requires { ⌜ Sound (now s) ⌝ }
+    ensures { λ r. ⌜ sourceOf r ≡ Rules.source 0 (marketOf (now (s .entry)) .lines) ⌝ }
+{
+    let mut best = Source::Nobody;
+    let mut i = s[9] as usize;
+    while 0 < i {
+        i -= 1;
+        let claim = claim_of(s, i);
+        best = better_of(i, claim, best);
+    }
+    best
+}
+
+// Where nobody is in line, the line with the best claim takes over an emptied log.
+pub fn promote(s: &mut [u64], out: &mut [u64], t: u64) -> Lost
+    requires { ⌜ Roomy (now s) (now out) ⌝ }
+    ensures { λ r. ⌜ Answers (Rules.promote t (marketOf (now (s .entry)))) (lent (now (s .entry)) (now (out .entry))) (ofLost r) (lent (now (s .exit)) (now (out .exit))) ⌝ }
+{
+    if store::conns::some_in_line(s) {
+        return Lost::Kept;
+    }
+    let best = source(s);
+    store::entries::clear(s);
+    match best {
+        Source::Nobody => Lost::Gone,
+        Source::Best { line, .. } => {
+            let n = moves::entering::take_over(s, out, 0, line, t);
+            let m = moves::lining_up::sweep(s, out, n, t);
+            Lost::Rebuild(m)
+        }
+    }
+}
+
+// The connection's line goes; if it was in line, the others are promoted.
+pub fn drop_conn(s: &mut [u64], out: &mut [u64], conn: u64, t: u64) -> Lost
+    requires { ⌜ Roomy (now s) (now out) ⌝ }
+    ensures { λ r. ⌜ Answers (Rules.dropConn conn t (marketOf (now (s .entry)))) (lent (now (s .entry)) (now (out .entry))) (ofLost r) (lent (now (s .exit)) (now (out .exit))) ⌝ }
+{
+    let led = crate::asking::in_line(s, conn);
+    line_list::remove(s, conn);
+    if led {
+        return promote(s, out, t);
+    }
+    Lost::Kept
+}
