@@ -13,17 +13,17 @@ use Rattle.rules.specs.declared.Asked.{Asked}
 use Rattle.rules.specs.declared.Asked.the-variants as Asked
 use Rattle.rules.specs.declared.Viewed.the-variants as Viewed
 use Rattle.rules.specs.Lists.{any}
-use Rattle.rules.specs.Lines.{Market}
-use Rattle.rules.specs.Calls.{Outcome, refuse}
+use Rattle.rules.specs.Lines.{Market, lineOf}
+use Rattle.rules.specs.Calls.{Outcome, refuse, snapshot}
 use Rattle.rules.specs.Tick.{tick}
-use Rattle.rules.specs.Refusals.{Call, Tick, step, short, roomNeeded, badAnswers, view, messages}
+use Rattle.rules.specs.Refusals.{Call, Snapshot, Tick, step, short, roomNeeded, badAnswers, view, messages}
 use Rattle.rules.specs.Answers.{Said, number, asked, viewed}
 use Rattle.rules.proofs.Tests.{ff≢tt}
 use Rattle.store.specs.Store.{limitsOf, lineCount, marketOf, Sound}
 use Rattle.store.proofs.ConnLaws.{lines-count}
 use Rattle.output.specs.Output.{over}
-use Rattle.market.specs.Lent.{Lent, lent, Answers, Roomy}
-use Rattle.market.specs.Turns.{lentAll}
+use Rattle.market.specs.Lent.{Lent, lent, lineFor, Answers, Roomy}
+use Rattle.market_tick.specs.Turns.{lentAll}
 use Rattle.market.proofs.AnswerLaws.{refuses}
 use Rattle.calls.specs.Meets.{Meets, MeetsQuery, MeetsView, records, reportRoom}
 
@@ -50,6 +50,19 @@ module _ (x : Call) (w v : List ℕ) (o : Outcome) (q : step x (marketOf w) ≡ 
 
   pub met-roomy : (a : Said) (after : Lent) → short (records v) (marketOf w) ≡ false → Answers o (lent w v) a after → Meets x (lent w v) a after
   met-roomy a after e r = met x (lent w v) a after s (rw (q, e) r)
+
+-- a snapshot's token comes before the room
+module _ (c token msg t : ℕ) (w v : List ℕ) (s : Sound w) where
+  abbrev snap : Call
+  snap = Snapshot c token msg t (records v)
+
+  pub token-bad : 1 < token → Meets snap (lent w v) (number 10) (lent w v)
+  unfolding step
+  token-bad h = met snap (lent w v) (number 10) (lent w v) s (refuses 10 (lent w v) (rw (lt-ltb 1 token h) refl))
+
+  pub token-good : token ≤ 1 → step snap (marketOf w) ≡ refuse (short (records v) (marketOf w)) 3 (snapshot (lineOf c (marketOf w)) token msg t (marketOf w) (lineFor c (marketOf w)))
+  unfolding step
+  token-good h = rw (le-ltb 1 token h) refl
 
 -- ---- queries and the view
 

@@ -1,8 +1,10 @@
 // The public calls: any words, any lengths, any times. What each of them promises, and demand 3 over any list of them, is in specs/.
 use rules::Asked;
 use rules::Changed;
+use rules::EventKey;
 use rules::Limits;
 use rules::Lost;
+use rules::Step;
 use rules::Ticked;
 use rules::Viewed;
 ghost use mathlib.Core.Path.{_≡_};
@@ -12,11 +14,11 @@ ghost use lib.Dec.{ltb};
 ghost use lib.ListN.{length};
 ghost use Rattle.rules.specs.Lists.{any};
 ghost use Rattle.rules.specs.Refusals as Rules;
-ghost use Rattle.rules.specs.Refusals.{Subscribe, Drop, Promote, Reset, Tick};
-ghost use Rattle.rules.specs.Answers.{ofChanged, ofLost, ofTicked, asked};
+ghost use Rattle.rules.specs.Refusals.{Subscribe, Snapshot, BookEvent, Print, Drop, Promote, Reset, Tick};
+ghost use Rattle.rules.specs.Answers.{ofStep, ofChanged, ofLost, ofTicked, asked};
 ghost use Rattle.store.specs.Store.{marketOf, Sound};
 ghost use Rattle.market.specs.Lent.{lent, alone};
-ghost use Rattle.market.specs.Turns.{lentAll};
+ghost use Rattle.market_tick.specs.Turns.{lentAll};
 ghost use Rattle.calls.specs.Meets.{Meets, MeetsSetup, MeetsQuery, MeetsView, records, reportRoom};
 ghost use Rattle.calls.specs.Header.{emptyHeader};
 
@@ -62,6 +64,55 @@ pub fn subscribe(s: &mut [u64], conn: u64, t: u64) -> Changed
         return market::changes::subscribe(s, conn, t);
     }
     Changed::Refused(1)
+}
+
+// A connection sends a snapshot of a token, 0 or 1.
+pub fn snapshot(s: &mut [u64], out: &mut [u64], conn: u64, token: u64, message: u64, t: u64) -> Step
+    ensures { λ r. ⌜ Meets (Snapshot conn token message t (records (now (out .entry)))) (lent (now (s .entry)) (now (out .entry))) (ofStep r) (lent (now (s .exit)) (now (out .exit))) ⌝ }
+{
+    if sound::is_sound(s) {
+        if 1 < token {
+            return Step::Refused(10);
+        }
+        if short(s, out.len()) {
+            return Step::Refused(3);
+        }
+        return market_events::snapshots::snapshot(s, out, conn, token, message, t);
+    }
+    Step::Refused(1)
+}
+
+// A connection sends a book event.
+pub fn book_event(
+    s: &mut [u64],
+    out: &mut [u64],
+    conn: u64,
+    key: EventKey,
+    message: u64,
+    t: u64,
+) -> Step
+    ensures { λ r. ⌜ Meets (BookEvent conn key message t (records (now (out .entry)))) (lent (now (s .entry)) (now (out .entry))) (ofStep r) (lent (now (s .exit)) (now (out .exit))) ⌝ }
+{
+    if sound::is_sound(s) {
+        if short(s, out.len()) {
+            return Step::Refused(3);
+        }
+        return market_events::events::book_event(s, out, conn, key, message, t);
+    }
+    Step::Refused(1)
+}
+
+// A connection sends a print: any message that is neither a snapshot nor a book event.
+pub fn other(s: &mut [u64], out: &mut [u64], conn: u64, key: EventKey, message: u64, t: u64) -> Step
+    ensures { λ r. ⌜ Meets (Print conn key message t (records (now (out .entry)))) (lent (now (s .entry)) (now (out .entry))) (ofStep r) (lent (now (s .exit)) (now (out .exit))) ⌝ }
+{
+    if sound::is_sound(s) {
+        if short(s, out.len()) {
+            return Step::Refused(3);
+        }
+        return market_prints::print(s, out, conn, key, message, t);
+    }
+    Step::Refused(1)
 }
 
 // A connection is gone: its line goes, and if it was in line the others are promoted.
@@ -142,7 +193,7 @@ pub fn tick(s: &mut [u64], out: &mut [u64], reports: &mut [u64], answers: &[u64]
         if reports.len() / 3 < lines {
             return Ticked::Refused(3);
         }
-        return market::ticking::tick(s, out, reports, answers, t);
+        return market_tick::tick(s, out, reports, answers, t);
     }
     Ticked::Refused(1)
 }

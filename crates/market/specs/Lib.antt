@@ -1,4 +1,2 @@
 pub mod Lent
 pub mod Claims
-pub mod Settled
-pub mod Turns

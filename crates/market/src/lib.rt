@@ -1,9 +1,7 @@
 // The calls on a sound store whose output list has room for what any call puts out.
 pub mod asking;
 pub mod changes;
-pub mod printing;
 pub mod promoting;
-pub mod ticking;
 
 // A line's claim to be the source of a new book: pending with a snapshot before waiting with one, then the later time.
 pub enum Claim {
@@ -19,11 +17,4 @@ pub enum Source {
         pending: u64,
         time: u64,
     },
-}
-
-// A tick under way: how many records and reports there are, and whether it has stopped.
-pub struct Turned {
-    pub n: usize,
-    pub m: usize,
-    pub stopped: bool,
 }

@@ -21,7 +21,7 @@ pub fn end(s: &[u64]) -> u64
 }
 
 // The words of the log's keys.
-fn keys(s: &[u64]) -> &[u64]
+pub fn keys(s: &[u64]) -> &[u64]
     requires { ⌜ Sized (now s) ⌝ }
     ensures { λ r. ⌜ now r ≡ keyWords (now (s .entry)) ⌝ }
 {

@@ -4,7 +4,7 @@ use borrow.Author.Needs.{needs}
 use Rattle.words.proofs.Cases.{says-yes, says-no}
 use Rattle.store.specs.Store.{Sound}
 use Rattle.rules.specs.Refusals.{Tick}
-use Rattle.market.specs.Turns.{lentAll}
+use Rattle.market_tick.specs.Turns.{lentAll}
 use Rattle.calls.specs.Meets.{records, reportRoom}
 use Rattle.calls.proofs.CallLaws.{tick-bad, tick-short, tick-few, tick-ready, tick-met, unmet}
 use Rattle.calls.proofs.tick.Statement.{statement}

@@ -1,0 +1,5 @@
+pub mod SnapshotLaws
+pub mod HoldLaws
+pub mod WaitingLaws
+pub mod EventLaws
+pub mod LeadLaws

@@ -1,0 +1,2 @@
+pub mod Pends
+pub mod Turns
