@@ -55,3 +55,31 @@ pub record MeetsView (conn : ℕ) (store before : List ℕ) (answer : Viewed) (a
   pub unsound : (Sound store → ⊥) → (answer ≡ Viewed.Refused 1) × (after ≡ before)
   pub sound : Sound store
       → (answer ≡ viewed (view conn (length before) (marketOf store))) × Written (view conn (length before) (marketOf store)) before after
+
+-- ---- the one predicate of every public call
+
+pub data Request : Type 0 where
+  ofCall : Call → Request
+  ofSetup : (limits : Limits) (start : ℕ) → Request
+  ofQuery : (Market → Bool) → Request
+  ofView : (conn : ℕ) → Request
+
+pub data Reply : Type 0 where
+  says : Said → Reply
+  asks : Asked → Reply
+  views : Viewed → Reply
+
+-- a view's list is lent where an output list is
+abbrev pub Promise : Request → Lent → Reply → Lent → Type 0
+Promise (ofCall x) before (says a) after = Meets x before a after
+Promise (ofCall x) before (asks a) after = ⊥
+Promise (ofCall x) before (views a) after = ⊥
+Promise (ofSetup l start) before (says a) after = MeetsSetup l start (before .store) a (after .store)
+Promise (ofSetup l start) before (asks a) after = ⊥
+Promise (ofSetup l start) before (views a) after = ⊥
+Promise (ofQuery q) before (says a) after = ⊥
+Promise (ofQuery q) before (asks a) after = MeetsQuery q (before .store) a
+Promise (ofQuery q) before (views a) after = ⊥
+Promise (ofView c) before (says a) after = ⊥
+Promise (ofView c) before (asks a) after = ⊥
+Promise (ofView c) before (views a) after = MeetsView c (before .store) (before .out) a (after .out)

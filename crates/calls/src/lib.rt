@@ -19,7 +19,7 @@ ghost use Rattle.rules.specs.Answers.{ofStep, ofChanged, ofLost, ofTicked, aske
 ghost use Rattle.store.specs.Store.{marketOf, Sound};
 ghost use Rattle.market.specs.Lent.{lent, alone};
 ghost use Rattle.market_tick.specs.Turns.{lentAll};
-ghost use Rattle.calls.specs.Meets.{Meets, MeetsSetup, MeetsQuery, MeetsView, records, reportRoom};
+ghost use Rattle.calls.specs.Meets.{Promise, ofCall, ofSetup, ofQuery, ofView, says, asks, views, records, reportRoom};
 ghost use Rattle.calls.specs.Header.{emptyHeader};
 
 // Writes the header of an empty store.
@@ -33,7 +33,7 @@ fn put_header(s: &mut [u64], l: Limits, start: u64)
 
 // Makes an empty store of these limits, whatever the words were.
 pub fn setup(s: &mut [u64], l: Limits, start: u64) -> Changed
-    ensures { λ r. ⌜ MeetsSetup l start (now (s .entry)) (ofChanged r) (now (s .exit)) ⌝ }
+    ensures { λ r. ⌜ Promise (ofSetup l start) (alone (now (s .entry))) (says (ofChanged r)) (alone (now (s .exit))) ⌝ }
 {
     if sound::in_range(l) {
         if (s.len() as u64) < sound::words_needed(l) {
@@ -58,7 +58,7 @@ fn short(s: &[u64], len: usize) -> bool
 
 // A connection subscribes: its line becomes Waiting, empty, since t.
 pub fn subscribe(s: &mut [u64], conn: u64, t: u64) -> Changed
-    ensures { λ r. ⌜ Meets (Subscribe conn t) (alone (now (s .entry))) (ofChanged r) (alone (now (s .exit))) ⌝ }
+    ensures { λ r. ⌜ Promise (ofCall (Subscribe conn t)) (alone (now (s .entry))) (says (ofChanged r)) (alone (now (s .exit))) ⌝ }
 {
     if sound::is_sound(s) {
         return market::changes::subscribe(s, conn, t);
@@ -68,7 +68,7 @@ pub fn subscribe(s: &mut [u64], conn: u64, t: u64) -> Changed
 
 // A connection sends a snapshot of a token, 0 or 1.
 pub fn snapshot(s: &mut [u64], out: &mut [u64], conn: u64, token: u64, message: u64, t: u64) -> Step
-    ensures { λ r. ⌜ Meets (Snapshot conn token message t (records (now (out .entry)))) (lent (now (s .entry)) (now (out .entry))) (ofStep r) (lent (now (s .exit)) (now (out .exit))) ⌝ }
+    ensures { λ r. ⌜ Promise (ofCall (Snapshot conn token message t (records (now (out .entry))))) (lent (now (s .entry)) (now (out .entry))) (says (ofStep r)) (lent (now (s .exit)) (now (out .exit))) ⌝ }
 {
     if sound::is_sound(s) {
         if 1 < token {
@@ -91,7 +91,7 @@ pub fn book_event(
     message: u64,
     t: u64,
 ) -> Step
-    ensures { λ r. ⌜ Meets (BookEvent conn key message t (records (now (out .entry)))) (lent (now (s .entry)) (now (out .entry))) (ofStep r) (lent (now (s .exit)) (now (out .exit))) ⌝ }
+    ensures { λ r. ⌜ Promise (ofCall (BookEvent conn key message t (records (now (out .entry))))) (lent (now (s .entry)) (now (out .entry))) (says (ofStep r)) (lent (now (s .exit)) (now (out .exit))) ⌝ }
 {
     if sound::is_sound(s) {
         if short(s, out.len()) {
@@ -104,7 +104,7 @@ pub fn book_event(
 
 // A connection sends a print: any message that is neither a snapshot nor a book event.
 pub fn other(s: &mut [u64], out: &mut [u64], conn: u64, key: EventKey, message: u64, t: u64) -> Step
-    ensures { λ r. ⌜ Meets (Print conn key message t (records (now (out .entry)))) (lent (now (s .entry)) (now (out .entry))) (ofStep r) (lent (now (s .exit)) (now (out .exit))) ⌝ }
+    ensures { λ r. ⌜ Promise (ofCall (Print conn key message t (records (now (out .entry))))) (lent (now (s .entry)) (now (out .entry))) (says (ofStep r)) (lent (now (s .exit)) (now (out .exit))) ⌝ }
 {
     if sound::is_sound(s) {
         if short(s, out.len()) {
@@ -117,7 +117,7 @@ pub fn other(s: &mut [u64], out: &mut [u64], conn: u64, key: EventKey, message: 
 
 // A connection is gone: its line goes, and if it was in line the others are promoted.
 pub fn drop_conn(s: &mut [u64], out: &mut [u64], conn: u64, t: u64) -> Lost
-    ensures { λ r. ⌜ Meets (Drop conn t (records (now (out .entry)))) (lent (now (s .entry)) (now (out .entry))) (ofLost r) (lent (now (s .exit)) (now (out .exit))) ⌝ }
+    ensures { λ r. ⌜ Promise (ofCall (Drop conn t (records (now (out .entry))))) (lent (now (s .entry)) (now (out .entry))) (says (ofLost r)) (lent (now (s .exit)) (now (out .exit))) ⌝ }
 {
     if sound::is_sound(s) {
         if short(s, out.len()) {
@@ -130,7 +130,7 @@ pub fn drop_conn(s: &mut [u64], out: &mut [u64], conn: u64, t: u64) -> Lost
 
 // Where nobody is in line, the line with the best claim takes over.
 pub fn promote(s: &mut [u64], out: &mut [u64], t: u64) -> Lost
-    ensures { λ r. ⌜ Meets (Promote t (records (now (out .entry)))) (lent (now (s .entry)) (now (out .entry))) (ofLost r) (lent (now (s .exit)) (now (out .exit))) ⌝ }
+    ensures { λ r. ⌜ Promise (ofCall (Promote t (records (now (out .entry))))) (lent (now (s .entry)) (now (out .entry))) (says (ofLost r)) (lent (now (s .exit)) (now (out .exit))) ⌝ }
 {
     if sound::is_sound(s) {
         if short(s, out.len()) {
@@ -143,7 +143,7 @@ pub fn promote(s: &mut [u64], out: &mut [u64], t: u64) -> Lost
 
 // Empties the log; every line but a Failed one becomes Pending, empty, since t.
 pub fn reset(s: &mut [u64], t: u64) -> Changed
-    ensures { λ r. ⌜ Meets (Reset t) (alone (now (s .entry))) (ofChanged r) (alone (now (s .exit))) ⌝ }
+    ensures { λ r. ⌜ Promise (ofCall (Reset t)) (alone (now (s .entry))) (says (ofChanged r)) (alone (now (s .exit))) ⌝ }
 {
     if sound::is_sound(s) {
         return market::changes::reset(s, t);
@@ -180,7 +180,7 @@ fn above_one(answers: &[u64]) -> bool
 
 // Time passes: old entries and print keys go, and each line has its turn.
 pub fn tick(s: &mut [u64], out: &mut [u64], reports: &mut [u64], answers: &[u64], t: u64) -> Ticked
-    ensures { λ r. ⌜ Meets (Tick (now (answers .entry)) t (records (now (out .entry))) (reportRoom (now (reports .entry)))) (lentAll (now (s .entry)) (now (out .entry)) (now (reports .entry))) (ofTicked r) (lentAll (now (s .exit)) (now (out .exit)) (now (reports .exit))) ⌝ }
+    ensures { λ r. ⌜ Promise (ofCall (Tick (now (answers .entry)) t (records (now (out .entry))) (reportRoom (now (reports .entry))))) (lentAll (now (s .entry)) (now (out .entry)) (now (reports .entry))) (says (ofTicked r)) (lentAll (now (s .exit)) (now (out .exit)) (now (reports .exit))) ⌝ }
 {
     if sound::is_sound(s) {
         if bad_answers(s, answers) {
@@ -209,7 +209,7 @@ fn answer(yes: bool) -> Asked
 
 // Whether the connection is in line.
 pub fn in_line(s: &[u64], conn: u64) -> Asked
-    ensures { λ r. ⌜ MeetsQuery (Rules.inLine conn) (now (s .entry)) r ⌝ }
+    ensures { λ r. ⌜ Promise (ofQuery (Rules.inLine conn)) (alone (now (s .entry))) (asks r) (alone (now (s .entry))) ⌝ }
 {
     if sound::is_sound(s) {
         return answer(market::asking::in_line(s, conn));
@@ -219,7 +219,7 @@ pub fn in_line(s: &[u64], conn: u64) -> Asked
 
 // Whether anyone is in line.
 pub fn any_in_line(s: &[u64]) -> Asked
-    ensures { λ r. ⌜ MeetsQuery Rules.anyInLine (now (s .entry)) r ⌝ }
+    ensures { λ r. ⌜ Promise (ofQuery Rules.anyInLine) (alone (now (s .entry))) (asks r) (alone (now (s .entry))) ⌝ }
 {
     if sound::is_sound(s) {
         return answer(store::conns::some_in_line(s));
@@ -229,7 +229,7 @@ pub fn any_in_line(s: &[u64]) -> Asked
 
 // Whether some line is in line, or able to start the book.
 pub fn servable(s: &[u64]) -> Asked
-    ensures { λ r. ⌜ MeetsQuery Rules.servable (now (s .entry)) r ⌝ }
+    ensures { λ r. ⌜ Promise (ofQuery Rules.servable) (alone (now (s .entry))) (asks r) (alone (now (s .entry))) ⌝ }
 {
     if sound::is_sound(s) {
         return answer(market::asking::servable(s));
@@ -239,7 +239,7 @@ pub fn servable(s: &[u64]) -> Asked
 
 // Writes a pending line's messages to the front of a list.
 pub fn view(s: &[u64], conn: u64, list: &mut [u64]) -> Viewed
-    ensures { λ r. ⌜ MeetsView conn (now (s .entry)) (now (list .entry)) r (now (list .exit)) ⌝ }
+    ensures { λ r. ⌜ Promise (ofView conn) (lent (now (s .entry)) (now (list .entry))) (views r) (lent (now (s .entry)) (now (list .exit))) ⌝ }
 {
     if sound::is_sound(s) {
         let h = s[1] as usize;
