@@ -1,7 +1,6 @@
 -- From a call on a sound store to what it promises on any words.
 use mathlib.Core.Path.{_≡_, refl, sym, ap, _∙_}
 use mathlib.Core.List.{List}
-use mathlib.Core.Option.{none, some}
 use mathlib.Core.Bool.{Bool, true, false, not, _||_}
 use Prim.Native.Nat.{ℕ, suc, _+_, _*_, _/_, _≤_, _<_}
 use native.Mathlib.Omega.{arith}
@@ -17,7 +16,7 @@ use Rattle.rules.specs.Lines.{Market, lineOf}
 use Rattle.rules.specs.Calls.{Outcome, refuse, snapshot}
 use Rattle.rules.specs.Tick.{tick}
 use Rattle.rules.specs.Refusals.{Call, Snapshot, Tick, step, short, roomNeeded, badAnswers, view, messages}
-use Rattle.rules.specs.Answers.{Said, number, asked, viewed}
+use Rattle.rules.specs.Answers.{Said, number, asked}
 use Rattle.rules.proofs.Tests.{ff≢tt}
 use Rattle.store.specs.Store.{limitsOf, lineCount, marketOf, Sound}
 use Rattle.store.proofs.ConnLaws.{lines-count}

@@ -1,3 +1,2 @@
-pub mod OnWords
 pub mod SetupLaws
 pub mod CallLaws

@@ -1,5 +1,5 @@
 -- Laws of setup: the empty store.
-use mathlib.Core.Path.{_≡_, refl, sym, _∙_, ap, subst}
+use mathlib.Core.Path.{_≡_, refl, sym, _∙_, subst}
 use mathlib.Core.List.{List, [], _∷_}
 use mathlib.Core.Bool.{true, false}
 use Prim.Native.Nat.{ℕ, _≤_, _<_}
@@ -9,19 +9,19 @@ use lib.ListN.{length}
 use Rattle.rules.specs.declared.Limits.{Limits}
 use Rattle.rules.specs.Lists.{Rising}
 use Rattle.rules.specs.Quantities.{inRange, wordsNeeded, maxNumber}
-use Rattle.rules.specs.Lines.{Market, fresh}
-use Rattle.rules.specs.Calls.{Outcome, refuse, just, done}
+use Rattle.rules.specs.Lines.{fresh}
+use Rattle.rules.specs.Calls.{done}
 use Rattle.rules.specs.Refusals.{setup}
-use Rattle.rules.specs.Answers.{Said, number, word, saidBy}
+use Rattle.rules.specs.Answers.{number, word}
 use Rattle.rules.specs.Sound as Rules
 use Rattle.rules.proofs.Tests.{lt-ltb, le-ltb}
 use Rattle.words.specs.Words.{back}
-use Rattle.words.proofs.Parts.{Loan, length-back}
+use Rattle.words.proofs.Parts.{length-back}
 use Rattle.log.specs.Log.{logOf}
 use Rattle.prints.specs.Area.{printsOf}
-use Rattle.store.specs.Store.{limitsOf, lineCount, marketOf, Sized, KindsKnown, Sound}
+use Rattle.store.specs.Store.{marketOf, Sound}
 use Rattle.sound.proofs.RangeLaws.{bounds}
-use Rattle.calls.specs.Meets.{SetsUp, MeetsSetup}
+use Rattle.calls.specs.Meets.{MeetsSetup}
 use Rattle.calls.specs.Header.{emptyHeader}
 
 module _ (l : Limits) (start : ℕ) (w : List ℕ) where

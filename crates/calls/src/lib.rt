@@ -8,7 +8,6 @@ use rules::Step;
 use rules::Ticked;
 use rules::Viewed;
 ghost use mathlib.Core.Path.{_≡_};
-ghost use mathlib.Core.List.{[], _∷_};
 ghost use Prim.Native.Nat.{_/_, _≤_};
 ghost use lib.Dec.{ltb};
 ghost use lib.ListN.{length};

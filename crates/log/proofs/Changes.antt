@@ -12,13 +12,9 @@ use Rattle.rules.specs.declared.Stamp.the-variants as Stamp
 use Rattle.words.specs.Words.{part, back, Moved}
 use Rattle.words.proofs.Parts.{Loan, part-length, getD-part, length-back, back-below, back-in, back-above}
 use Rattle.words.proofs.Tab.{tab-ext, tab-snoc, length-tab, tab-from}
-use Rattle.log.specs.Log.{logOf, Fit}
+use Rattle.log.specs.Log.{logOf, Fit, put}
 use Rattle.log.specs.declared.Head.{Head}
 use Rattle.log.proofs.Reading.{entryAt}
-
--- the area after a push
-abbrev pub put : ℕ → ℕ → Key → ℕ → List ℕ → List ℕ
-put g n k t w = set (set (set w (2 * n) (k .0)) (2 * n + 1) (k .1)) (2 * g + n) t
 
 module _ (g n : ℕ) (k : Key) (t : ℕ) (w : List ℕ) (size : length w ≡ 3 * g) (room : n < g) where
   other : (j : ℕ) → (j ≡ 2 * n → ⊥) → (j ≡ 2 * n + 1 → ⊥) → (j ≡ 2 * g + n → ⊥) → getD (put g n k t w) j 0 ≡ getD w j 0
@@ -41,15 +37,23 @@ module _ (g n : ℕ) (k : Key) (t : ℕ) (w : List ℕ) (size : length w ≡ 3 *
         getD-set-same (set (set w (2 * n) (k .0)) (2 * n + 1) (k .1)) (2 * g + n) t 0 (simp length-set (omega arith)),
       )
 
-pub push-done : {g : ℕ} {w : List ℕ} {h : Head} (k : Key) {t : ℕ} → Fit g w h → h .count < g
-    → logOf g (put g (h .count) k t w) (record { base = h .base; count = h .count + 1; last = Stamp.At t }) ≡ push k t (logOf g w h)
-unfolding logOf
-push-done {g} {w} {h} k {t} f room =
-    rw (
-      tab-snoc (h .count) (entryAt g (put g (h .count) k t w)),
-      newest g (h .count) k t w (f .size) room,
-      tab-ext (h .count) (entryAt g (put g (h .count) k t w)) (entryAt g w) (older g (h .count) k t w (f .size) room),
-    )
+-- the head after a push
+abbrev pub pushed : Head → ℕ → Head
+pushed h t = record { base = h .base; count = h .count + 1; last = Stamp.At t }
+
+module _ {g : ℕ} {w z : List ℕ} {h : Head} (k : Key) (t : ℕ) (fit : Fit g w h) (room : h .count < g) (is : z ≡ put g (h .count) k t w) where
+  pub push-done : logOf g z (pushed h t) ≡ push k t (logOf g w h)
+  unfolding logOf
+  push-done =
+      rw (
+        is,
+        tab-snoc (h .count) (entryAt g (put g (h .count) k t w)),
+        newest g (h .count) k t w (fit .size) room,
+        tab-ext (h .count) (entryAt g (put g (h .count) k t w)) (entryAt g w) (older g (h .count) k t w (fit .size) room),
+      )
+
+  pub push-fit : Fit g z (pushed h t)
+  push-fit = record { size = rw is (simp length-set (fit .size)); count = omega arith }
 
 pub clear-done : (g : ℕ) (w : List ℕ) (h : Head) → logOf g w (record { base = h .base + h .count; count = 0; last = h .last }) ≡ clear (logOf g w h)
 unfolding logOf

@@ -2,7 +2,7 @@
 use mathlib.Core.Path.{_≡_}
 use mathlib.Core.List.{List}
 use Prim.Native.Nat.{ℕ, _+_, _*_, _≤_}
-use lib.ListN.{length, getD}
+use lib.ListN.{length, getD, set}
 use Rattle.rules.specs.Quantities.{Key, key}
 use Rattle.rules.specs.Log.{Log}
 use Rattle.words.specs.Words.{tab}
@@ -24,3 +24,7 @@ logOf g w h = record { base = h .base; entries = tab (h .count) (λ i. (keyIn w 
 pub record Fit (g : ℕ) (w : List ℕ) (h : Head) : Type 0 where
   pub size : length w ≡ 3 * g
   pub count : h .count ≤ g
+
+-- the area with key k and time t as entry n
+abbrev pub put : ℕ → ℕ → Key → ℕ → List ℕ → List ℕ
+put g n k t w = set (set (set w (2 * n) (k .0)) (2 * n + 1) (k .1)) (2 * g + n) t

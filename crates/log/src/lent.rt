@@ -1,4 +1,4 @@
-// The head lent and changed: thin over the functions that take it by value.
+// The head lent and changed in place.
 ghost use mathlib.Core.Path.{_≡_};
 ghost use mathlib.Core.List.{List};
 ghost use Prim.Native.Nat.{ℕ, _+_, _<_, _^_};
@@ -6,6 +6,7 @@ ghost use Rattle.rules.specs.Log.{push, clear};
 ghost use Rattle.log.specs.Log.{logOf, Fit};
 use super::Head;
 use rules::EventKey;
+use rules::Stamp;
 
 // Adds an entry at the end and sets last-applied.
 pub fn push(area: &mut [u64], g: usize, head: &mut Head, key: EventKey, t: u64)
@@ -13,7 +14,10 @@ pub fn push(area: &mut [u64], g: usize, head: &mut Head, key: EventKey, t: u64)
     ensures { λ _. ⌜ logOf g (now (area .exit)) (now (head .exit)) ≡ push key t (logOf g (now (area .entry)) (now (head .entry))) ⌝ }
     ensures { λ _. ⌜ (Fit g (now (area .exit)) (now (head .exit))) × ((now (head .exit) .base ≡ now (head .entry) .base) × (now (head .exit) .count ≡ now (head .entry) .count + 1)) ⌝ }
 {
-    *head = super::push(area, g, *head, key, t);
+    let n = head.count;
+    super::put(area, g, n, key, t);
+    head.count = n + 1;
+    head.last = Stamp::At(t);
 }
 
 // Forgets the entries; the numbers go on.
@@ -22,5 +26,6 @@ pub fn clear(head: &mut Head)
     ensures { λ _. ⌜ ((g : ℕ) (w : List ℕ) → logOf g w (now (head .exit)) ≡ clear (logOf g w (now (head .entry)))) ⌝ }
     ensures { λ _. ⌜ (now (head .exit) .base ≡ now (head .entry) .base + now (head .entry) .count) × (now (head .exit) .count ≡ 0) ⌝ }
 {
-    *head = super::clear(*head);
+    head.base += head.count as u64;
+    head.count = 0;
 }

@@ -6,7 +6,7 @@ ghost use lib.ListN.{length, drop};
 ghost use Rattle.rules.specs.Quantities.{same, age};
 ghost use Rattle.rules.specs.Log.{keys, keyAt, push, clear, stamp, prune, old};
 ghost use Rattle.rules.specs.Place.{fits};
-ghost use Rattle.log.specs.Log.{keyIn, keysIn, logOf, Fit};
+ghost use Rattle.log.specs.Log.{keyIn, keysIn, logOf, Fit, put};
 ghost use Rattle.log.specs.Answers.{keyAnswer, matchAnswer};
 use rules::EventKey;
 use rules::Stamp;
@@ -36,6 +36,16 @@ pub enum Matched {
     Differs,
 }
 
+// Writes entry n: the two words of its key, and its time.
+fn put(area: &mut [u64], g: usize, n: usize, key: EventKey, t: u64)
+    requires { ⌜ (length (now area) ≡ 3 * g) × (n < g) ⌝ }
+    ensures { λ _. ⌜ now (area .exit) ≡ put g n key t (now (area .entry)) ⌝ }
+{
+    area[2 * n] = key.0;
+    area[2 * n + 1] = key.1;
+    area[2 * g + n] = t;
+}
+
 // Adds an entry at the end and sets last-applied.
 pub fn push(area: &mut [u64], g: usize, head: Head, key: EventKey, t: u64) -> Head
     requires { ⌜ (Fit g (now area) head) × (head .count < g) ⌝ }
@@ -44,9 +54,7 @@ pub fn push(area: &mut [u64], g: usize, head: Head, key: EventKey, t: u64) -> He
 {
     let base = head.base;
     let n = head.count;
-    area[2 * n] = key.0;
-    area[2 * n + 1] = key.1;
-    area[2 * g + n] = t;
+    put(area, g, n, key, t);
     Head {
         base: base,
         count: n + 1,

@@ -1,7 +1,7 @@
 -- From what was done on the words to what a call answers and leaves.
 use mathlib.Core.Path.{_≡_, refl, sym, ap, _∙_, subst}
-use mathlib.Core.List.{List, [], _∷_, _++_}
-use Prim.Native.Nat.{ℕ, _+_, _*_, _≤_}
+use mathlib.Core.List.{List, []}
+use Prim.Native.Nat.{ℕ, _*_, _≤_}
 use native.Mathlib.Omega.{arith}
 use lib.ListN.{length}
 use Rattle.rules.specs.declared.Applied.{Applied}
@@ -10,17 +10,17 @@ use Rattle.rules.specs.Lines.{Market}
 use Rattle.rules.specs.Entering.{Work, begin}
 use Rattle.rules.specs.Calls.{Answer, Outcome, refused, did, just}
 use Rattle.rules.specs.Refusals.{roomNeeded}
-use Rattle.rules.specs.Answers.{Said, number, word, saidBy}
+use Rattle.rules.specs.Answers.{Said, number, word}
 use Rattle.rules.specs.Sound as Rules
 use Rattle.rules.specs.Sound.{holdings}
-use Rattle.rules.proofs.SoundMoves.{Bound, SoundW}
+use Rattle.rules.proofs.SoundMoves.{SoundW}
 use Rattle.rules.proofs.SoundCalls.{roomFor, Safe, begin-sound}
 use Rattle.store.specs.Store.{limitsOf, marketOf, Sound}
 use Rattle.store.specs.Moves.{Moved}
 use Rattle.store.proofs.FrameLaws.{moved-sound}
-use Rattle.output.specs.Output.{recordsWords, reportsWords, over, overAt}
-use Rattle.moves.specs.Does.{Goes, Does, Ready}
-use Rattle.market.specs.Lent.{Lent, lent, Left, Leaves, Answers, Roomy}
+use Rattle.output.specs.Output.{recordsWords, reportsWords, over}
+use Rattle.moves.specs.Does.{Goes, Ready}
+use Rattle.market.specs.Lent.{Lent, lent, Answers, Roomy}
 
 -- ---- ready
 

@@ -10,22 +10,22 @@ use borrow.Author.Tests.{leb-true, leb-false}
 use Rattle.rules.specs.declared.Item.{Item}
 use Rattle.rules.specs.Lists.{any, index}
 use Rattle.rules.specs.Log.{clear}
-use Rattle.rules.specs.Lines.{Connection, Market, nobody, messageOf, isInLine, isPending, itemsOf, lineOf, connAt, withLog, withLines, subscribed}
-use Rattle.rules.specs.Calls.{Outcome, refused, just, done, refuse, subscribe, pendingAnew, eachLine, reset}
-use Rattle.rules.specs.Refusals.{inLine, messages}
+use Rattle.rules.specs.Lines.{Connection, Market, nobody, messageOf, isPending, itemsOf, lineOf, connAt, withLog, withLines, subscribed}
+use Rattle.rules.specs.Calls.{refused, just, done, subscribe, pendingAnew, eachLine, reset}
+use Rattle.rules.specs.Refusals.{messages}
 use Rattle.rules.specs.Answers.{number, word}
 use Rattle.rules.proofs.ListLaws.{map-append}
 use Rattle.rules.proofs.SoundCalls.{clear-sound, subscribe-safe, reset-sound, just-safe}
 use Rattle.place.specs.Items.{itemOf, itemIn, itemsIn}
 use Rattle.place.proofs.Items.{items-length, items-snoc}
 use Rattle.store.specs.Store.{limitsOf, headOf, lineCount, marketOf, Sized, Sound}
-use Rattle.store.specs.Moves.{Moved, Counts}
-use Rattle.store.specs.ConnMoves.{itemsAt, Lined, LineAt}
+use Rattle.store.specs.Moves.{Moved}
+use Rattle.store.specs.ConnMoves.{itemsAt, LineAt}
 use Rattle.store.proofs.FrameLaws.{moved-on, moved-sound}
 use Rattle.store.proofs.EntryLaws.{counts}
 use Rattle.store.proofs.ConnLaws.{lines-count, lined-sound, fits-sound}
 use Rattle.output.specs.Output.{over}
-use Rattle.market.specs.Lent.{lent, alone, Answers}
+use Rattle.market.specs.Lent.{alone, Answers}
 use Rattle.market.proofs.AnswerLaws.{refuses, justly}
 use Rattle.moves.proofs.LiningReads.{items-said, items-words}
 

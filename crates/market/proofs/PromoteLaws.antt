@@ -1,46 +1,44 @@
 -- What promote and drop answer.
 use mathlib.Core.Path.{_≡_, refl, sym, ap, _∙_, subst}
-use mathlib.Core.List.{List, [], _∷_}
+use mathlib.Core.List.{List, []}
 use mathlib.Core.Option.{Option, none, some}
-use mathlib.Core.Bool.{Bool, true, false, not, _&&_, _||_, cond}
-use Prim.Native.Nat.{ℕ, zero, suc, _+_, _-_, _*_, _≤_, _<_}
+use mathlib.Core.Bool.{Bool, true, false, not, _||_, cond}
+use Prim.Native.Nat.{ℕ, suc, _+_, _-_, _*_, _≤_, _<_}
 use native.Mathlib.Omega.{arith}
 use lib.Dec.{ltb, eqb}
 use lib.ListN.{length, getD, drop}
-use borrow.Author.Tests.{eq-eqb, ne-eqb, lt-ltb, le-ltb}
-use Rattle.rules.specs.declared.Stamp.{Stamp}
+use borrow.Author.Tests.{eq-eqb, ne-eqb, le-ltb}
 use Rattle.rules.specs.declared.Stamp.the-variants as Stamp
 use Rattle.rules.specs.Lists.{any, keep, maybe}
 use Rattle.rules.specs.Log.{clear}
 use Rattle.rules.specs.Lines as Rules
 use Rattle.rules.specs.Lines.{Connection, Market, isSnapshot, isFailed, itemsOf, someone, connAt, withLog, withLines}
 use Rattle.rules.specs.Entering.{Work, begin, takeOver, sweep}
-use Rattle.rules.specs.Calls.{Outcome, did, just, kept, gone, rebuild, claim, below, better, source, promote, dropConn}
+use Rattle.rules.specs.Calls.{did, just, kept, gone, rebuild, claim, below, better, source, promote, dropConn}
 use Rattle.rules.specs.Refusals.{inLine}
 use Rattle.rules.specs.Answers.{Said, word}
 use Rattle.rules.proofs.Tests.{none≢some}
 use Rattle.rules.proofs.CallsKept.{source-law}
-use Rattle.rules.proofs.SoundMoves.{SoundW, takeOver-sound, sweep-sound, events-le}
-use Rattle.rules.proofs.SoundCalls.{roomFor, Safe, clear-sound, holdings-fit, promote-safe, dropped-sound, drop-safe, begin-sound}
+use Rattle.rules.proofs.SoundMoves.{takeOver-sound, events-le}
+use Rattle.rules.proofs.SoundCalls.{clear-sound, promote-safe, dropped-sound, drop-safe}
 use Rattle.lines.specs.declared.Line.{Line}
 use Rattle.lines.specs.declared.Line.the-variants as Line
 use Rattle.lines.specs.Line.{lineOf, heldOf}
 use Rattle.lines.specs.Area.{headLine}
-use Rattle.store.specs.Store.{limitsOf, lineCount, lineWordsAt, marketOf, Sound}
+use Rattle.store.specs.Store.{lineCount, lineWordsAt, marketOf}
 use Rattle.store.specs.Moves.{Moved}
 use Rattle.store.specs.ConnMoves.{itemsAt, LineFits, NotFailed}
-use Rattle.store.proofs.FrameLaws.{moved-on, moved-sound, moved-limits}
 use Rattle.store.proofs.ConnLaws.{lines-count, items-counted, line-words, lines-from, lines-end}
 use Rattle.place.specs.Items.{itemsIn}
 use Rattle.market.specs.declared.Claim.{Claim}
 use Rattle.market.specs.declared.Source.{Source}
 use Rattle.market.specs.declared.Source.the-variants as Source
 use Rattle.market.specs.Claims.{claimOf, sourceOf}
-use Rattle.moves.specs.Does.{Goes, Does, Ready}
-use Rattle.market.specs.Lent.{Lent, lent, Answers, Roomy}
+use Rattle.moves.specs.Does.{Does, Ready}
+use Rattle.market.specs.Lent.{lent, Answers, Roomy}
 use Rattle.moves.proofs.DoesLaws.{goes-then, moved-none, ready-then}
 use Rattle.moves.proofs.LiningReads.{items-words}
-use Rattle.market.proofs.AnswerLaws.{ready-at, ready-begin, roomy-then, goes-just, answered, justly, answers-from}
+use Rattle.market.proofs.AnswerLaws.{ready-begin, roomy-then, goes-just, answered, justly, answers-from}
 
 -- ---- claims
 

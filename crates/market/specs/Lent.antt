@@ -1,7 +1,7 @@
 -- What is lent to a call, and what an outcome of the rules leaves there.
 use mathlib.Core.Path.{_≡_}
 use mathlib.Core.List.{List, []}
-use Prim.Native.Nat.{ℕ, _+_, _*_, _≤_, _<_}
+use Prim.Native.Nat.{ℕ, _*_, _≤_, _<_}
 use lib.ListN.{length}
 use Rattle.rules.specs.declared.Expired.{Expired}
 use Rattle.rules.specs.Lines.{Line, Market, lineOf, connAt}

@@ -5,13 +5,13 @@ use lines::Line;
 use rules::Lost;
 use rules::Stamp;
 ghost use mathlib.Core.Path.{_≡_};
-ghost use Prim.Native.Nat.{ℕ, _<_};
+ghost use Prim.Native.Nat.{_<_};
 ghost use Rattle.rules.specs.Calls as Rules;
 ghost use Rattle.rules.specs.Calls.{claim, better};
 ghost use Rattle.rules.specs.Lines.{connAt};
 ghost use Rattle.rules.specs.Answers.{ofLost};
-ghost use Rattle.store.specs.Store.{lineCount, marketOf, Sound};
-ghost use Rattle.store.specs.ConnMoves.{LineFits, Lined};
+ghost use Rattle.store.specs.Store.{marketOf, Sound};
+ghost use Rattle.store.specs.ConnMoves.{LineFits};
 ghost use Rattle.market.specs.Lent.{lent, Answers, Roomy};
 ghost use Rattle.market.specs.Claims.{claimOf, sourceOf};
 

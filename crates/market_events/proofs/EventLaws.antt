@@ -6,7 +6,7 @@ use Prim.Native.Nat.{ℕ, suc, _+_, _-_, _*_, _≤_, _<_}
 use native.Mathlib.Omega.{arith}
 use borrow.Author.Tests.{le-leb, lt-leb}
 use lib.Dec.{leb, ltb, eqb}
-use lib.ListN.{length, getD, length-set}
+use lib.ListN.{length, getD}
 use Rattle.rules.specs.declared.Item.{Item}
 use Rattle.rules.specs.declared.Item.the-variants as Item
 use Rattle.rules.specs.declared.Limits.{Limits}
@@ -15,11 +15,10 @@ use Rattle.rules.specs.Quantities.{Key, noKey}
 use Rattle.rules.specs.Log.{end, keys}
 use Rattle.rules.specs.Lines as Rules
 use Rattle.rules.specs.Lines.{Market, connAt, itemsOf, isFailed, isInLine, setLine}
-use Rattle.rules.specs.Entering.{Work, begin, onMarket, pushOut, aligns, tryLineUp, sweep}
+use Rattle.rules.specs.Entering.{Work, begin, onMarket, pushOut, sweep}
 use Rattle.rules.specs.Calls.{Answer, refused, did, just, apply, duplicate, held, diverged, failed, released, fullLog, fullNumbers, bookEvent}
 use Rattle.rules.specs.Answers.{number, word}
-use Rattle.rules.proofs.Tests.{by-maybe, eqb-same}
-use Rattle.rules.proofs.Loops.{lineUp-lines}
+use Rattle.rules.proofs.Tests.{eqb-same}
 use Rattle.rules.proofs.SoundMoves.{tryLineUp-sound}
 use Rattle.rules.proofs.SoundCalls.{roomFor, Safe, begin-sound, book-safe}
 use Rattle.words.proofs.Parts.{part-length}
@@ -42,6 +41,7 @@ use Rattle.moves.specs.Does.{Goes}
 use Rattle.market.specs.Lent.{lent, Answers, Roomy}
 use Rattle.moves.specs.Reads.{keyWords}
 use Rattle.market_events.specs.Settled.{Waits, Pends, Settled, tried}
+use Rattle.moves.proofs.LiningLaws.{tryLineUp-count}
 use Rattle.market.proofs.AnswerLaws.{goes-just, refuses, answered}
 use Rattle.moves.proofs.LiningReads.{entry-base, keys-said}
 use Rattle.market_events.proofs.SnapshotLaws.{base-word, line-is, line-at, safe-as, changed-here, changed-limits, changed-self, changed-roomy, stays, settled-none, settled-some}
@@ -216,12 +216,6 @@ module _ {w : List ℕ} {i n : ℕ} (key : Key) (msg : ℕ) (s : Sound w) (p : W
           (wait-holds i key msg t (marketOf w) is (p .since) (held-less w i n h) b c)
 
 -- ---- a Pending line
-
-tryLineUp-count : (i t : ℕ) (k : Work) → length ((tryLineUp false i t k) .market .lines) ≡ length (k .market .lines)
-unfolding tryLineUp
-tryLineUp-count i t k =
-    by-maybe (λ (x : Work). length (x .market .lines) ≡ length (k .market .lines)) (aligns false ((connAt i (k .market)) .line) (k .market)) refl
-    (λ p h. ap length (lineUp-lines i t p k) ∙ simp length-set)
 
 -- settled with nothing put out: the line's try is all that was done
 module _ {w v w₁ v₁ : List ℕ} {i t r : ℕ} (s : Sound w) (h : i < lineCount w) (g : Settled i t w v w₁ v₁ r) (z : r ≡ 0) where

@@ -1,27 +1,27 @@
 -- Laws of a book event to a line in line, and to the line of a connection.
 use mathlib.Core.Path.{_≡_, refl, sym, ap, _∙_, subst}
-use mathlib.Core.List.{List, [], _∷_, _++_}
+use mathlib.Core.List.{List}
 use mathlib.Core.Bool.{Bool, true, false}
 use Prim.Native.Nat.{ℕ, suc, _+_, _^_, _≤_, _<_}
 use native.Mathlib.Omega.{arith}
 use native.Mathlib.Numerals.{add-one}
 use borrow.Author.Tests.{lt-ltb, le-ltb}
 use lib.Dec.{ltb}
-use lib.ListN.{length, getD, length-append}
+use lib.ListN.{length, getD}
 use Rattle.rules.specs.declared.Limits.{Limits}
 use Rattle.rules.specs.declared.Stamp.the-variants as Stamp
 use Rattle.rules.specs.Quantities.{Key, maxNumber}
 use Rattle.rules.specs.Log.{end}
 use Rattle.rules.specs.Lines as Rules
-use Rattle.rules.specs.Lines.{Market, connAt, itemsOf, itemCount, withLog, setConn, setLine}
+use Rattle.rules.specs.Lines.{Market, connAt, itemsOf, itemCount, setLine}
 use Rattle.rules.specs.Entering.{begin, onMarket, pushOut, sweep}
 use Rattle.rules.specs.Calls.{apply, duplicate, ignored, diverged, failed, fullLog, fullNumbers, bookEvent}
 use Rattle.rules.specs.Answers.{Said, number, word}
 use Rattle.rules.specs.Sound as Sounds
 use Rattle.rules.specs.Sound.{LineSound}
 use Rattle.rules.proofs.Tests.{leb-false}
-use Rattle.rules.proofs.SoundMoves.{SoundW, grow-conns, pushOut-pushed}
-use Rattle.rules.proofs.SoundCalls.{roomFor, holdings-fit, shrink}
+use Rattle.rules.proofs.SoundMoves.{SoundW, pushOut-pushed}
+use Rattle.rules.proofs.SoundCalls.{roomFor, pushed-sound}
 use Rattle.lines.specs.declared.Line.the-variants as Line
 use Rattle.lines.specs.Area.{headLine}
 use Rattle.lines.specs.Steps.{sameAt}
@@ -37,7 +37,7 @@ use Rattle.market_events.specs.Settled.{Leads}
 use Rattle.moves.proofs.DoesLaws.{goes-then, goes-is, does-market}
 use Rattle.market.proofs.AnswerLaws.{ready-at}
 use Rattle.moves.proofs.LiningReads.{entry-base}
-use Rattle.market_events.proofs.SnapshotLaws.{base-word, line-here, line-is, line-past, line-sound, held-fits, room-one}
+use Rattle.market_events.proofs.SnapshotLaws.{base-word, line-here, line-is, line-past, line-sound, room-one}
 use Rattle.market_events.proofs.EventLaws.{lead-fails, lead-same, lead-other, lead-5, lead-9, lead-new, book-refused, book-stays, book-just, book-did}
 
 -- ---- a number that the log has, or had
@@ -75,29 +75,6 @@ module _ {w : List ℕ} {i next : ℕ} {a b : Bool} (key : Key) (s : Sound w) (p
 -- ---- a number at the log's end
 
 -- pushed and put out, and the line goes on
-pushed-sound : (i : ℕ) (key : Key) (msg t : ℕ) (m : Market) (n : ℕ) (a b : Bool) → i < length (m .lines) → length (itemsOf ((connAt i m) .line)) ≡ 0 → n ≤ end (m .log)
-    → length ((connAt i m) .held) ≤ m .limits .H → Sounds.Sound m → fullLog m ≡ false → fullNumbers m ≡ false
-    → SoundW (roomFor (m .limits)) (onMarket (setLine i (Rules.InLine (suc n) a b)) (pushOut ((connAt i m) .conn) t key msg (begin m)))
-unfolding pushOut
-pushed-sound i key msg t m n a b lt none le hh s f₅ f₉ =
-    let g₅ : length (m .log .entries) + itemCount (m .lines) < m .limits .G = leb-false f₅ in
-    let g₉ : end (m .log) + itemCount (m .lines) < maxNumber = leb-false f₉ in
-    let la : length (m .log .entries ++ ((key, t) ∷ [])) ≡ length (m .log .entries) + 1 = length-append (m .log .entries) ((key, t) ∷ []) in
-    let m₁ : Market = withLog (record { base = m .log .base; entries = m .log .entries ++ ((key, t) ∷ []); last = Stamp.At t }) m in
-    let s₁ : Sounds.Sound m₁ = record {
-      limitsFit = s .limitsFit;
-      lines = record {
-        linesFit = s .lines .linesFit;
-        rises = s .lines .rises;
-        conns = grow-conns (m .limits) (end (m .log)) (m .log .base + length (m .log .entries ++ ((key, t) ∷ []))) (m .lines) (omega arith) (s .lines .conns);
-        logFits = omega arith;
-        numbersFit = omega arith;
-      };
-      prints = s .prints;
-    } in
-    let s₂ = shrink m₁ i (Rules.InLine (suc n) a b) ((connAt i m) .held) s₁ lt (omega arith) hh (omega arith) in
-    record { sound = s₂; limits = refl; spent = let z = holdings-fit (setConn i (Rules.InLine (suc n) a b) ((connAt i m) .held) m₁) s₂ in omega arith }
-
 module _ {w v : List ℕ} {i next : ℕ} {a b : Bool} (key : Key) (msg t : ℕ) (r : Roomy w v) (p : Leads w i next a b) (u : headOf w .base + headOf w .count ≤ next) where
   ends-from : ltb next (marketOf w .log .base) ≡ false
   ends-from = let y = entry-base w in le-ltb next (marketOf w .log .base) (omega arith)
@@ -155,7 +132,7 @@ module _ {w v : List ℕ} {i next : ℕ} {a b : Bool} (key : Key) (msg t : ℕ) 
           new-sound : SoundW (roomFor (limitsOf w)) (onMarket (setLine i (Rules.InLine (suc next) a b)) (pushOut ((connAt i (marketOf w)) .conn) t key msg (begin (marketOf w))))
           new-sound =
               subst (λ (l : Limits). SoundW (roomFor l) (onMarket (setLine i (Rules.InLine (suc next) a b)) (pushOut ((connAt i (marketOf w)) .conn) t key msg (begin (marketOf w))))) (market-limits w)
-              (pushed-sound i key msg t (marketOf w) next a b (line-here (r .sound) (p .here)) (ap (λ (l : Rules.Line). length (itemsOf l)) ends-line) ends-at (held-fits (r .sound) (p .here)) (r .sound .market) c d)
+              (pushed-sound i key msg t (marketOf w) next a b (line-here (r .sound) (p .here)) (ap (λ (l : Rules.Line). length (itemsOf l)) ends-line) ends-at (r .sound .market) c d)
 
           pub new-ready : length v₁ ≡ length v → Ready w₂ v₁ n
           new-ready l = ready-at r l new-goes new-sound

@@ -23,10 +23,10 @@ use Rattle.rules.specs.Calls.{Answer, Outcome, did, just, apply, duplicate, hel
 use Rattle.rules.specs.Answers.{Said, word, ofStep}
 use Rattle.rules.specs.Sound as Sounds
 use Rattle.rules.specs.Sound.{ConnSound, LineSound}
-use Rattle.rules.proofs.Tests.{by-cond, eqb-same, eqb-other}
+use Rattle.rules.proofs.Tests.{eqb-same, eqb-other}
 use Rattle.rules.proofs.ListLaws.{each-at}
 use Rattle.rules.proofs.SoundMoves.{SoundW, tryLineUp-sound, sweep-sound}
-use Rattle.rules.proofs.SoundCalls.{roomFor, Safe, holdings-fit, begin-sound, just-safe, shrink}
+use Rattle.rules.proofs.SoundCalls.{roomFor, Safe, holdings-fit, begin-sound, just-safe, shrink, released-safe}
 use Rattle.words.proofs.Parts.{getD-part}
 use Rattle.lines.specs.declared.Line.{Line}
 use Rattle.lines.specs.Line.{lineOf, snapshotStep}
@@ -154,9 +154,6 @@ module _ {w v w₁ v₁ : List ℕ} {n : ℕ} (i t : ℕ) (d : Does (tryLineUp f
         goes = goes-is (sym (ap (λ (x : Bool). cond x k₁ (sweep t k₁)) e)) (goes-then (omega arith) g b);
         nothing = e ∙ sym (eqb-other (λ (q : r ≡ 0). z (omega arith)));
       }
-
-released-safe : (l : Limits) (a : Answer) (t : ℕ) (k : Work) → SoundW (roomFor l) k → Safe l (released a t k)
-released-safe l a t k s = by-cond (Safe l) (nil (k .out)) (λ q. (s, omega arith)) (λ q. (sweep-sound (roomFor l) t k s, omega arith))
 
 -- what a call answers that changed the words to w₁ and then settled the line
 module _ {w v w₁ w₂ v₂ : List ℕ} {r i t : ℕ} {o : Outcome} (a : Answer) (b : Sound w) (s : Roomy w₁ v) (d : Moved w w₁ (marketOf w₁)) (q : limitsOf w₁ ≡ limitsOf w)

@@ -9,7 +9,7 @@ ghost use mathlib.Core.List.{List};
 ghost use mathlib.Core.Bool.{false, true};
 ghost use Prim.Native.Nat.{ℕ, _+_, _*_, _≤_, _<_};
 ghost use lib.ListN.{length};
-ghost use Rattle.rules.specs.Lines.{connAt, itemsOf, isInLine};
+ghost use Rattle.rules.specs.Lines.{connAt, itemsOf};
 ghost use Rattle.rules.specs.Tick as Rules;
 ghost use Rattle.rules.specs.Tick.{rebuildFrom, timeOut, quietLineUp};
 ghost use Rattle.rules.specs.Answers.{ofTicked};

@@ -11,7 +11,7 @@ use Rattle.rules.specs.Sound as Rules
 use Rattle.rules.specs.Sound.{holdings}
 use Rattle.rules.proofs.ListLaws.{append-nil}
 use Rattle.rules.proofs.SoundMoves.{Bound, SoundW}
-use Rattle.store.specs.Store.{limitsOf, marketOf, Sized, Sound}
+use Rattle.store.specs.Store.{marketOf, Sized, Sound}
 use Rattle.store.specs.Moves.{Moved}
 use Rattle.store.proofs.FrameLaws.{moved-on, moved-sound}
 use Rattle.output.specs.Output.{recordWords, recordsWords, overAt}

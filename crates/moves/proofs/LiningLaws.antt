@@ -115,7 +115,7 @@ module _ {w v : List ℕ} {n : ℕ} (quiet : Bool) (i t : ℕ) where
 
 -- ---- a round
 
-tryLineUp-count : (i now : ℕ) (k : Work) → length ((tryLineUp false i now k) .market .lines) ≡ length (k .market .lines)
+pub tryLineUp-count : (i now : ℕ) (k : Work) → length ((tryLineUp false i now k) .market .lines) ≡ length (k .market .lines)
 unfolding tryLineUp
 tryLineUp-count i now k =
     by-maybe (λ (x : Work). length (x .market .lines) ≡ length (k .market .lines)) (aligns false ((connAt i (k .market)) .line) (k .market)) refl

@@ -239,7 +239,7 @@ snapshot-safe i t msg now m (Waiting is since) tk e s =
 
 -- ---- Book event
 -- in line at the end: pushed and put out
-pushed-sound : (i : ℕ) (k : Key) (msg now : ℕ) (m : Market) (n : ℕ) (a b : Bool) → i < length (m .lines) → length (itemsOf ((connAt i m) .line)) ≡ 0 → n ≤ end (m .log) → Sound m → fullLog m ≡ false → fullNumbers m ≡ false
+pub pushed-sound : (i : ℕ) (k : Key) (msg now : ℕ) (m : Market) (n : ℕ) (a b : Bool) → i < length (m .lines) → length (itemsOf ((connAt i m) .line)) ≡ 0 → n ≤ end (m .log) → Sound m → fullLog m ≡ false → fullNumbers m ≡ false
     → SoundW (roomFor (m .limits)) (onMarket (setLine i (InLine (suc n) a b)) (pushOut ((connAt i m) .conn) now k msg (begin m)))
 unfolding pushOut
 pushed-sound i k msg now m n a b lt il old s q₅ q₉ =

@@ -1,8 +1,7 @@
 use Rattle.words.proofs.Cases.{says-yes, says-no}
 use Rattle.store.specs.Store.{Sound}
-use mathlib.Core.Path.{refl}
 use Rattle.rules.specs.Refusals as Rules
-use Rattle.market.specs.Lent.{lent, alone}
+use Rattle.market.specs.Lent.{alone}
 use Rattle.calls.proofs.CallLaws.{met, unmet}
 use borrow.Author.Needs.{needs}
 use Rattle.calls.proofs.subscribe.Statement.{statement}

@@ -1,32 +1,16 @@
 use mathlib.Core.Path.{refl}
-use native.Mathlib.Omega.{arith}
-use lib.ListN.{length-set}
-use Rattle.log.proofs.Changes.{push-done}
+use Rattle.log.proofs.Changes.{push-done, push-fit}
 use borrow.Author.Needs.{needs}
 use Rattle.log.proofs.push.Statement.{statement}
 use Rattle.log.proofs.push.Tie as tie
 
 returns : tie.Need-returns
-returns c = (
-  push-done (c .args .key) (c .pre .0) (c .pre .1),
-  (record { size = simp length-set (c .pre .0 .size); count = omega arith }, (refl, refl)),
-)
+returns c =
+    let start = c .before .before .before .before .before in
+    let is = c .before .before .put .ensures in (
+      push-done (start .args .key) (start .args .t) (start .pre .0) (start .pre .1) is,
+      (push-fit (start .args .key) (start .args .t) (start .pre .0) (start .pre .1) is, (refl, refl)),
+    )
 
 pub push-spec : {M : Type 1} → statement M
-push-spec =
-    tie.close
-    (tie.spec
-    (λ c. search needs)
-    (λ c. search needs)
-    (λ c. search needs)
-    (λ c. search needs)
-    (λ c. search needs)
-    (λ c. search needs)
-    (λ c. simp length-set (omega arith))
-    (λ c. search needs)
-    (λ c. search needs)
-    (λ c. search needs)
-    (λ c. simp length-set (omega arith))
-    (λ c. search needs)
-    (λ c. search needs)
-    returns)
+push-spec = tie.close (tie.spec (λ c. search needs) (λ c. search needs) (λ c. search needs) returns)

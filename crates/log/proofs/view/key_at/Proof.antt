@@ -48,6 +48,7 @@ use Rattle.log.specs.View.{viewOf}
 use Rattle.log.specs.Answers.{keyAnswer}
 use Rattle.log.specs.declared.view.LogView.{LogView}
 use Rattle.log.specs.declared.KeyAt.{KeyAt}
+use Rattle.log.proofs.Passing.{passed-at, holding}
 use Rattle.log.proofs.view.LogView as T
 use Rattle.log.proofs.view.LogView.Laws as T′
 use Rattle.log.proofs.KeyAt as S
@@ -67,6 +68,10 @@ B κs = T.the-row (namedLft 1 0 tt κs)
 
 abbrev stayed : Stays (f.ended .signature .params) (f.ended .kept)
 stayed = (stay-none B yes, (stay-none (λ _. u64) yes, tt))
+
+-- where the context of the call has what is passed i-th
+abbrev entry : ℕ → ℕ
+entry = passed-at 10 (code.function .body)
 
 module _ {M : Type 1} (𝓤 : URA M) (H : Heap 𝓤) (A : Atoms 𝓤) (mem : Memory → SProp 𝓤) (run : Routine → Fun 𝓤) where
   -- the contract that the proof cites
@@ -138,7 +143,7 @@ module _ {M : Type 1} (𝓤 : URA M) (H : Heap 𝓤) (A : Atoms 𝓤) (W : Given
         assigns ! (of-opd ! (load ! (from ! (fld ! refl (stop !))) (look-in ! 6 (sub ! 0 refl (whole !))))) (from ! (stop !)) (init ! 2 refl (tt, wt .1 .0)) $
         assigns ! (of-opd ! (load ! (from ! (fld ! refl (stop !))) (look-in ! 6 (sub ! 1 refl (whole !))))) (from ! (stop !)) (init ! 0 refl (tt, wt .1 .1 .0)) $
         move ! (10 ∷ []) $ use1 W (raw (KeyInKeys 𝓤 H A mem run .pre to) ⊛ ‵ Own) (apart (wt .1 .1 .0 .fits)) $ split ! $
-        calls-at ! fm (KeyInKeys 𝓤 H A mem run) known to (and-then ! (load ! (from ! (stop !)) (look ! 4 refl)) (and-then ! (load ! (from ! (stop !)) (look ! 2 refl)) (and-then ! (load ! (from ! (stop !)) (look ! 6 refl)) (no-more !)))) (λ u.
+        calls-at ! fm (KeyInKeys 𝓤 H A mem run) known to (holding ! (and-then ! (load ! (from ! (stop !)) (look ! (entry 0) refl)) (and-then ! (load ! (from ! (stop !)) (look ! (entry 1) refl)) (and-then ! (load ! (from ! (stop !)) (look ! (entry 2) refl)) (no-more !)))) refl) (λ u.
         use1 W (later (some (λ (r : KeyAt). ((‵ (flft κ q) ⊛ ‵ ftrue) ⊛ ‵ (S.the-row .own r (u ∷ []))) ⊛ raw (ensured 𝓤 H A callee.ended (callee.clauses 𝓤 H A mem run) (κ, tt) (d .keys, (d .base, (n, tt))) tt r)))) (id⊢ 𝓤 _) $ await ! tt $ pick ! (λ r.
         split ! $ move ! (1 ∷ []) $ use1 W (raw (fact 𝓤 (r ≡ found))) (said r) $ heard ! (r ≡ found) (λ e. split ! $ move ! (1 ∷ []) $
         -- [the result; the token; what the struct owns; _3; …; _2; …; _1; …; room for _0; …]

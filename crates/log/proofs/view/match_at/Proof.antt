@@ -49,6 +49,7 @@ use Rattle.log.specs.View.{allKeys}
 use Rattle.log.specs.Answers.{matchAnswer}
 use Rattle.log.specs.declared.view.LogView.{LogView}
 use Rattle.log.specs.declared.Matched.{Matched}
+use Rattle.log.proofs.Passing.{passed-at, holding}
 use Rattle.log.proofs.view.LogView as T
 use Rattle.log.proofs.view.LogView.Laws as T′
 use Rattle.log.proofs.Matched as S
@@ -68,6 +69,10 @@ B κs = T.the-row (namedLft 2 0 tt κs)
 
 abbrev stayed : Stays (f.ended .signature .params) (f.ended .kept)
 stayed = (stay-none B yes, (stay-none-slice (1 ∷ []) tt (plain (λ _. u64)) yes, (stay-none (λ _. usize) yes, (stay-none (λ _. u64) yes, tt))))
+
+-- where the context of the call has what is passed i-th
+abbrev entry : ℕ → ℕ
+entry = passed-at 15 (code.function .body)
 
 module _ {M : Type 1} (𝓤 : URA M) (H : Heap 𝓤) (A : Atoms 𝓤) (mem : Memory → SProp 𝓤) (run : Routine → Fun 𝓤) where
   -- the contract that the proof cites
@@ -178,7 +183,7 @@ module _ {M : Type 1} (𝓤 : URA M) (H : Heap 𝓤) (A : Atoms 𝓤) (W : Given
         assigns ! (of-opd ! (load ! (from ! (fld ! refl (stop !))) (look-in ! 10 (sub ! 1 refl (whole !))))) (from ! (stop !)) (init ! 0 refl (tt, wt .1 .1 .0)) $
         move ! (14 ∷ []) $ use1 W (raw (MatchInKeys 𝓤 H A mem run .pre to) ⊛ ‵ Own ⊛ ‵ Held) (apart can (wt .1 .1 .0 .fits)) $ split ! $ move ! (1 ∷ []) $ split ! $ move ! (2 ∷ []) $
         -- [pre; the struct; held; _6 at 3; …]
-        calls-at ! fm (MatchInKeys 𝓤 H A mem run) known to (and-then ! (load ! (from ! (stop !)) (look ! 5 refl)) (and-then ! (load ! (from ! (stop !)) (look ! 3 refl)) (and-then ! (load ! (from ! (stop !)) (look ! 11 refl)) (and-then ! (load ! (from ! (stop !)) (look ! 9 refl)) (and-then ! (load ! (from ! (stop !)) (look ! 7 refl)) (no-more !)))))) (λ u.
+        calls-at ! fm (MatchInKeys 𝓤 H A mem run) known to (holding ! (and-then ! (load ! (from ! (stop !)) (look ! (entry 0) refl)) (and-then ! (load ! (from ! (stop !)) (look ! (entry 1) refl)) (and-then ! (load ! (from ! (stop !)) (look ! (entry 2) refl)) (and-then ! (load ! (from ! (stop !)) (look ! (entry 3) refl)) (and-then ! (load ! (from ! (stop !)) (look ! (entry 4) refl)) (no-more !)))))) refl) (λ u.
         use1 W (later (some (λ (r : Matched). ((‵ (flft κ q) ⊛ ‵ (flft κ′ q′) ⊛ ‵ ftrue) ⊛ ‵ (S.the-row .own r (u ∷ []))) ⊛ raw (ensured 𝓤 H A callee.ended (callee.clauses 𝓤 H A mem run) κs given-to tt r)))) (id⊢ 𝓤 _) $ await ! tt $ pick ! (λ r.
         split ! $ move ! (1 ∷ []) $ use1 W (raw (fact 𝓤 (r ≡ found))) (said r) $ heard ! (r ≡ found) (λ is. split ! $ move ! (1 ∷ []) $
         -- [the result; the tokens; the struct; held; _6 at 4; …; room for _0 at 16; …]
