@@ -4,7 +4,7 @@ ghost use Rattle.keys.specs.Keys.{keyOf};
 use rules::EventKey;
 use sip::State;
 
-mod load;
+pub mod load;
 mod sip;
 
 // The word that stands before a message in its second hash.
