@@ -1,0 +1,18 @@
+use borrow.Author.Needs.{needs}
+use Rattle.exports.proofs.merge_reset.Statement.{statement}
+use Rattle.exports.proofs.merge_reset.Tie as tie
+
+reset-requires : tie.Need-reset-requires
+reset-requires c κs = search needs
+
+of-changed-requires : tie.Need-of-changed-requires
+of-changed-requires c κs = search needs
+
+same-length : tie.Need-same-length
+same-length c = search needs
+
+returns : tie.Need-returns
+returns c = rw (← c .of-changed .ensures) (c .before .before .before .reset .ensures)
+
+pub merge-reset-spec : {M : Type 1} → statement M
+merge-reset-spec = tie.close (tie.spec reset-requires of-changed-requires same-length returns)

@@ -1,0 +1,15 @@
+use borrow.Author.Needs.{needs}
+use Rattle.exports.proofs.merge_servable.Statement.{statement}
+use Rattle.exports.proofs.merge_servable.Tie as tie
+
+servable-requires : tie.Need-servable-requires
+servable-requires c κs = search needs
+
+of-asked-requires : tie.Need-of-asked-requires
+of-asked-requires c κs = search needs
+
+returns : tie.Need-returns
+returns c = rw (← c .of-asked .ensures) (c .before .servable .ensures)
+
+pub merge-servable-spec : {M : Type 1} → statement M
+merge-servable-spec = tie.close (tie.spec servable-requires of-asked-requires returns)
