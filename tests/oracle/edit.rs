@@ -1,5 +1,6 @@
-// edit ORIGINAL OUT: writes the original feed_merge.rs with the edits that the comparison needs. Each edit has to find its
-// text the number of times that it names, so that an original of another shape is not compared by mistake.
+// edit ORIGINAL OUT [hashed]: writes the original feed_merge.rs with the edits that the comparison needs; `hashed` keeps its lines
+// in a HashMap, as it has them. Each edit has to find its text the number of times that it names, so that an original of another
+// shape is not compared by mistake.
 use std::process::exit;
 
 fn fail(why: &str) -> ! {
@@ -24,8 +25,9 @@ fn cut(text: &mut String, from: &str, to: &str) {
 
 fn main() {
     let args: Vec<String> = std::env::args().collect();
-    if args.len() != 3 {
-        fail("usage: edit ORIGINAL OUT");
+    let hashed = args.len() == 4 && args[3] == "hashed";
+    if args.len() != 3 && !hashed {
+        fail("usage: edit ORIGINAL OUT [hashed]");
     }
     let mut text = std::fs::read_to_string(&args[1]).unwrap_or_else(|e| fail(&format!("{}: {e}", args[1])));
     let t = &mut text;
@@ -34,9 +36,11 @@ fn main() {
     replace(t, 1, "    hash::Hasher,\n    time::{Duration, Instant},\n", "    time::Duration,\n");
     // keys are given, not hashed
     cut(t, "/// The second hash starts with this.", "/// A message to apply to the market's book.");
-    // lines by rising connection
-    cut(t, "#[cfg(not(test))]\ntype Lines", "/// One market's merge");
-    replace(t, 1, "/// One market's merge", "type Lines = std::collections::BTreeMap<ConnId, Line>;\n\n/// One market's merge");
+    if !hashed {
+        // lines by rising connection
+        cut(t, "#[cfg(not(test))]\ntype Lines", "/// One market's merge");
+        replace(t, 1, "/// One market's merge", "type Lines = std::collections::BTreeMap<ConnId, Line>;\n\n/// One market's merge");
+    }
     // the held limit comes from setup
     replace(t, 1, "items.len() >= MAX_HELD", "items.len() >= self.max_held");
     replace(t, 1, "held.len() >= MAX_HELD", "held.len() >= self.max_held");
@@ -49,9 +53,15 @@ fn main() {
     for field in ["applied: u32,", "delivered: HashMap<ConnId, u32>,", "touched: Instant,"] {
         replace(t, 1, &format!("    {field}\n"), &format!("    pub {field}\n"));
     }
-    for field in
-        ["log: VecDeque<", "base: u64,", "others: HashMap<", "held_prints: HashMap<", "lines: Lines,", "last_applied: Option<"]
-    {
+    for field in [
+        "log: VecDeque<",
+        "base: u64,",
+        "positions: HashMap<",
+        "others: HashMap<",
+        "held_prints: HashMap<",
+        "lines: Lines,",
+        "last_applied: Option<",
+    ] {
         replace(t, 1, &format!("\n    {field}"), &format!("\n    pub {field}"));
     }
     replace(t, 1, "\n    fn view(&self", "\n    pub fn view(&self");

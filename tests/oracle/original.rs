@@ -1,9 +1,10 @@
 // The original's side: the same calls on the edited MarketMerge, its answers and its fields in the terms of words.rs.
-use crate::merge::{self, Applied, EventKey, Expired, Lost, MarketMerge, Step};
+use crate::lists::Setup;
+use crate::merge::{self, Applied, Copies, EventKey, Expired, Lost, MarketMerge, Step};
 use crate::reading::{Item, Line, Market};
 use crate::shim::Instant;
 use crate::words::{Call, Key, Limits};
-use std::collections::BTreeMap;
+use std::collections::{BTreeMap, HashMap};
 
 // A record as the original has it: connection, message, whether it is a snapshot.
 pub type Put = (u64, u64, bool);
@@ -13,6 +14,7 @@ pub struct Answer {
     pub word: &'static str,
     pub put: Vec<Put>,
     pub reports: Vec<(u64, u64, Vec<Put>)>,
+    pub messages: Vec<u64>,
 }
 
 fn puts(out: Vec<Applied>) -> Vec<Put> {
@@ -20,7 +22,7 @@ fn puts(out: Vec<Applied>) -> Vec<Put> {
 }
 
 fn said(word: &'static str, put: Vec<Put>) -> Answer {
-    Answer { word, put, reports: Vec::new() }
+    Answer { word, put, reports: Vec::new(), messages: Vec::new() }
 }
 
 fn stepped(step: Step) -> Answer {
@@ -42,16 +44,59 @@ fn lost(lost: Lost) -> Answer {
     }
 }
 
-pub fn new(x: Limits, start: u64) -> MarketMerge {
+fn new(x: Limits, start: u64) -> MarketMerge {
     let mut m = MarketMerge::default();
     m.max_held = x.h as usize;
     m.base = start;
     m
 }
 
-pub fn call(m: &mut MarketMerge, call: &Call, t: u64, same: &dyn Fn(&[&u64]) -> bool) -> Answer {
+// What a list starts from.
+pub fn start(s: &Setup) -> MarketMerge {
+    let Some((from, _)) = &s.from else { return new(s.limits, s.start) };
+    let mut m = new(s.limits, from.base);
+    m.last_applied = from.last_applied.map(Instant);
+    for (i, ((a, b), at)) in from.log.iter().enumerate() {
+        m.log.push_back((EventKey(*a, *b), Instant(*at)));
+        m.positions.entry(EventKey(*a, *b)).or_default().push_back(from.base + i as u64);
+    }
+    for ((a, b), (applied, touched)) in &from.keys {
+        let copies = Copies { applied: *applied as u32, delivered: HashMap::new(), touched: Instant(*touched) };
+        m.others.insert(EventKey(*a, *b), copies);
+    }
+    for (((a, b), conn), delivered) in &from.counts {
+        m.others.get_mut(&EventKey(*a, *b)).expect("each count has its key").delivered.insert(*conn, *delivered as u32);
+    }
+    for (conn, (line, held)) in &from.lines {
+        m.lines.insert(*conn, made_line(line));
+        m.held_prints.insert(*conn, held.iter().map(|((a, b), message)| (EventKey(*a, *b), *message)).collect());
+    }
+    m
+}
+
+fn made_line(line: &Line) -> merge::Line {
+    let items = line.items().iter().map(|item| match item {
+        Item::Snapshot(token, message) => merge::Item::Snapshot(*token as usize, *message),
+        Item::Event((a, b), message) => merge::Item::Event(EventKey(*a, *b), *message),
+    });
+    let items = items.collect();
+    match line {
+        Line::Waiting { since, .. } => merge::Line::Waiting { items, since: Instant(*since) },
+        Line::Pending { snapshot, since, .. } => {
+            merge::Line::Pending { items, snapshot: snapshot.map(Instant), since: Instant(*since) }
+        }
+        Line::InLine { next, due } => merge::Line::InLine { next: *next, due: *due },
+        Line::Failed => merge::Line::Failed,
+    }
+}
+
+pub fn call(m: &mut MarketMerge, call: &Call, t: u64, same: &dyn Fn(&[u64]) -> bool) -> Answer {
     let now = Instant(t);
     match *call {
+        Call::Setup { limits, start } => {
+            *m = new(limits, start);
+            said("done", Vec::new())
+        }
         Call::Subscribe { conn } => {
             m.subscribe(conn, now);
             said("done", Vec::new())
@@ -65,15 +110,26 @@ pub fn call(m: &mut MarketMerge, call: &Call, t: u64, same: &dyn Fn(&[&u64]) -> 
             m.reset(now);
             said("done", Vec::new())
         }
-        Call::Tick => {
-            let reports = m.tick(now, same).into_iter().map(|e| match e {
-                Expired::Aligned(conn, out) => (0, conn, puts(out)),
-                Expired::Rebuild(conn, out) => (1, conn, puts(out)),
-                Expired::Failed(conn) => (2, conn, Vec::new()),
-            });
-            Answer { word: "done", put: Vec::new(), reports: reports.collect() }
-        }
+        Call::Tick => tick(m, now, same),
+        Call::InLine { conn } => asked(m.in_line(conn)),
+        Call::AnyInLine => asked(m.any_in_line()),
+        Call::Servable => asked(m.servable()),
+        Call::View { conn } => Answer { messages: m.view(conn).into_iter().copied().collect(), ..said("messages", Vec::new()) },
     }
+}
+
+fn tick(m: &mut MarketMerge, now: Instant, same: &dyn Fn(&[u64]) -> bool) -> Answer {
+    let same = |view: &[&u64]| same(&view.iter().map(|&&message| message).collect::<Vec<_>>());
+    let reports = m.tick(now, &same).into_iter().map(|e| match e {
+        Expired::Aligned(conn, out) => (0, conn, puts(out)),
+        Expired::Rebuild(conn, out) => (1, conn, puts(out)),
+        Expired::Failed(conn) => (2, conn, Vec::new()),
+    });
+    Answer { reports: reports.collect(), ..said("done", Vec::new()) }
+}
+
+fn asked(yes: bool) -> Answer {
+    said(if yes { "yes" } else { "no" }, Vec::new())
 }
 
 fn key(k: &EventKey) -> Key {
@@ -119,13 +175,4 @@ pub fn reading(m: &MarketMerge) -> Market {
 // Held prints of a connection that has no line: the reading has no place for them.
 pub fn stray_prints(m: &MarketMerge) -> bool {
     m.held_prints.iter().any(|(conn, held)| !held.is_empty() && !m.lines.contains_key(conn))
-}
-
-// The queries in the exported calls' codes: in line for each connection, any in line, servable.
-pub fn queries(m: &MarketMerge, conns: &[u64]) -> Vec<u64> {
-    let code = |yes| if yes { 1 } else { 2 };
-    let mut codes: Vec<u64> = conns.iter().map(|&conn| code(m.in_line(conn))).collect();
-    codes.push(code(m.any_in_line()));
-    codes.push(code(m.servable()));
-    codes
 }

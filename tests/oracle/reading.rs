@@ -1,5 +1,5 @@
 // A market as both sides are read, and a store's reading by docs/LAYOUT.md.
-use crate::words::{Key, Limits, UNTOUCHED};
+use crate::words::{Key, Limits};
 use std::collections::BTreeMap;
 
 #[derive(Clone, Debug, PartialEq)]
@@ -16,40 +16,78 @@ pub enum Line {
     Failed,
 }
 
-// A market as both sides are read.
+impl Line {
+    // The items of a line that holds some.
+    pub fn items(&self) -> &[Item] {
+        match self {
+            Line::Waiting { items, .. } | Line::Pending { items, .. } => items,
+            _ => &[],
+        }
+    }
+
+    // A pending line's messages.
+    pub fn view(&self) -> Vec<u64> {
+        let message = |item: &Item| match item {
+            Item::Snapshot(_, message) | Item::Event(_, message) => *message,
+        };
+        match self {
+            Line::Pending { items, .. } => items.iter().map(message).collect(),
+            _ => Vec::new(),
+        }
+    }
+
+    pub fn due(&self) -> bool {
+        matches!(self, Line::InLine { due, .. } if due[0] || due[1])
+    }
+}
+
+pub type Held = Vec<(Key, u64)>;
+
 #[derive(Clone, Debug, PartialEq)]
 pub struct Market {
     pub base: u64,
     pub log: Vec<(Key, u64)>,
     pub last_applied: Option<u64>,
+    // each key's applied count and touched time
     pub keys: BTreeMap<Key, (u64, u64)>,
     pub counts: BTreeMap<(Key, u64), u64>,
-    pub lines: BTreeMap<u64, (Line, Vec<(Key, u64)>)>,
+    // each connection's line and held prints
+    pub lines: BTreeMap<u64, (Line, Held)>,
 }
 
-// The reading of a store. Limits are read from the words, and have to be those of setup.
-pub fn reading(w: &[u64], x: Limits, more: usize) -> Result<Market, String> {
-    if (Limits { l: w[0], h: w[1], g: w[2], c: w[3], d: w[4] }) != x {
-        return Err("the limits changed".into());
+impl Market {
+    pub fn line(&self, conn: u64) -> Option<&Line> {
+        self.lines.get(&conn).map(|(line, _)| line)
     }
-    if w[w.len() - more..].iter().any(|&v| v != UNTOUCHED) {
-        return Err("a word past the last line area was written".into());
+    pub fn each_line(&self) -> impl Iterator<Item = &Line> {
+        self.lines.values().map(|(line, _)| line)
     }
+    pub fn end(&self) -> u64 {
+        self.base + self.log.len() as u64
+    }
+    pub fn items(&self) -> u64 {
+        self.each_line().map(|line| line.items().len() as u64).sum()
+    }
+    pub fn any_in_line(&self) -> bool {
+        self.each_line().any(|line| matches!(line, Line::InLine { .. }))
+    }
+}
+
+// The reading of a sound store.
+pub fn reading(w: &[u64]) -> Result<Market, String> {
+    let x = Limits::of(w);
     let (h, g, c, d) = (x.h as usize, x.g as usize, x.c as usize, x.d as usize);
     let log = &w[64..64 + 3 * g];
     let prints = &w[64 + 3 * g..64 + 3 * g + 4 * c + 4 * d];
     let areas = &w[64 + 3 * g + 4 * c + 4 * d..];
     let size = 7 * h + 64;
     let mut lines = BTreeMap::new();
-    for i in 0..w[9] as usize {
-        let a = &areas[i * size..(i + 1) * size];
+    for a in areas.chunks(size).take(w[9] as usize) {
         if lines.last_key_value().is_some_and(|(&conn, _)| conn >= a[0]) {
             return Err("connections do not rise".into());
         }
-        lines.insert(
-            a[0],
-            (line(a)?, (0..a[9] as usize).map(|i| &a[4 * h + 64 + 3 * i..]).map(|p| ((p[0], p[1]), p[2])).collect()),
-        );
+        let held = a[4 * h + 64..].chunks(3).take(a[9] as usize).map(|p| ((p[0], p[1]), p[2])).collect();
+        lines.insert(a[0], (line(a)?, held));
     }
     let keys: BTreeMap<_, _> = prints.chunks(4).take(w[10] as usize).map(|r| ((r[0], r[1]), (r[2], r[3]))).collect();
     let counts: BTreeMap<_, _> = prints[4 * c..].chunks(4).take(w[11] as usize).map(|r| (((r[0], r[1]), r[2]), r[3])).collect();
@@ -67,7 +105,7 @@ pub fn reading(w: &[u64], x: Limits, more: usize) -> Result<Market, String> {
 }
 
 fn line(a: &[u64]) -> Result<Line, String> {
-    let items = || (0..a[2] as usize).map(|i| item(&a[32 + 4 * i..])).collect();
+    let items = || a[32..].chunks(4).take(a[2] as usize).map(item).collect();
     Ok(match a[1] {
         0 => Line::Waiting { items: items(), since: a[3] },
         1 => Line::Pending { items: items(), snapshot: (a[4] != 0).then_some(a[5]), since: a[3] },

@@ -1,2 +1,1 @@
-pub mod SetupLaws
 pub mod CallLaws

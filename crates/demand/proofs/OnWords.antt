@@ -22,7 +22,7 @@ use Rattle.rules.proofs.Demand3.{demand3}
 use Rattle.store.specs.Store.{marketOf, Sound}
 use Rattle.output.specs.Output.{kindWord, kindOf, recordWords, recordsWords, recordOf, recordsIn}
 use Rattle.market.specs.Lent.{Lent, Leaves}
-use Rattle.calls.specs.Meets.{Meets, SetsUp, MeetsSetup}
+use Rattle.promise.specs.Meets.{Meets, SetsUp, MeetsSetup}
 use Rattle.demand.specs.DemandOnWords.{Made, Chain, lastStore, callsOf, putOutBy, putOut, takenBy, taken, Accepted, DemandOn, Demand3OnWords}
 
 -- ---- records read back

@@ -16,7 +16,7 @@ use Rattle.rules.specs.Demand.{books, bookKeys, nowTaken, run, setUp, lineFor, 
 use Rattle.store.specs.Store.{marketOf}
 use Rattle.output.specs.Output.{recordsIn}
 use Rattle.market.specs.Lent.{Lent}
-use Rattle.calls.specs.Meets.{Meets, MeetsSetup}
+use Rattle.promise.specs.Meets.{Meets, MeetsSetup}
 
 -- one call on the words: what it was, what was lent to it, what it answered and left
 pub record Made : Type 0 where

@@ -1,6 +1,4 @@
 pub mod Reading
-mod Changes
+pub mod Changes
 pub mod Search
 pub mod Claims
-mod Passing
-pub mod ViewLaws

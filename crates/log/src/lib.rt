@@ -11,9 +11,6 @@ ghost use Rattle.log.specs.Answers.{keyAnswer, matchAnswer};
 use rules::EventKey;
 use rules::Stamp;
 
-pub mod lent; // lent.rt: the head lent and changed
-pub mod view; // view.rt: a view of the log's keys
-
 // An entry older than this leaves the log.
 const LOG_KEEP: u64 = 10_000;
 
@@ -37,7 +34,7 @@ pub enum Matched {
 }
 
 // Writes entry n: the two words of its key, and its time.
-fn put(area: &mut [u64], g: usize, n: usize, key: EventKey, t: u64)
+pub fn put(area: &mut [u64], g: usize, n: usize, key: EventKey, t: u64)
     requires { ⌜ (length (now area) ≡ 3 * g) × (n < g) ⌝ }
     ensures { λ _. ⌜ now (area .exit) ≡ put g n key t (now (area .entry)) ⌝ }
 {

@@ -21,7 +21,7 @@ fn push_lent(area: &mut [u64], g: usize, head: Head, key: EventKey, t: u64) -> H
     ensures { λ r. ⌜ (Fit g (now (area .exit)) r) × ((r .base ≡ head .base) × (r .count ≡ head .count + 1)) ⌝ }
 {
     let mut lent = head;
-    log::lent::push(area, g, &mut lent, key, t);
+    log_borrowed::lent::push(area, g, &mut lent, key, t);
     lent
 }
 
@@ -32,7 +32,7 @@ fn clear_lent(head: Head) -> Head
     ensures { λ r. ⌜ (r .base ≡ head .base + head .count) × (r .count ≡ 0) ⌝ }
 {
     let mut lent = head;
-    log::lent::clear(&mut lent);
+    log_borrowed::lent::clear(&mut lent);
     lent
 }
 
@@ -44,7 +44,7 @@ fn key_by_view(area: &[u64], g: usize, head: Head, n: u64) -> KeyAt
     let base = head.base;
     let count = head.count;
     let e = 2 * count;
-    log::view::key_at_slice(&area[0..e], base, n)
+    log_borrowed::view::key_at_slice(&area[0..e], base, n)
 }
 
 // Asks a view of the log's keys: what `log::match_at` answers.
@@ -55,7 +55,7 @@ fn match_by_view(area: &[u64], g: usize, head: Head, held: &[u64], n: usize, p: 
     let base = head.base;
     let count = head.count;
     let e = 2 * count;
-    log::view::match_at_slice(&area[0..e], base, held, n, p)
+    log_borrowed::view::match_at_slice(&area[0..e], base, held, n, p)
 }
 
 // Three pushes by value.

@@ -40,12 +40,12 @@ use Rattle.store.proofs.EntryLaws.{market-limits, counts}
 use Rattle.moves.specs.Does.{Goes}
 use Rattle.market.specs.Lent.{lent, Answers, Roomy}
 use Rattle.moves.specs.Reads.{keyWords}
-use Rattle.market_events.specs.Settled.{Waits, Pends, Settled, tried}
+use Rattle.market_snapshots.specs.Settled.{Waits, Pends, Settled, tried}
 use Rattle.moves.proofs.LiningLaws.{tryLineUp-count}
 use Rattle.market.proofs.AnswerLaws.{goes-just, refuses, answered}
 use Rattle.moves.proofs.LiningReads.{entry-base, keys-said}
-use Rattle.market_events.proofs.SnapshotLaws.{base-word, line-is, line-at, safe-as, changed-here, changed-limits, changed-self, changed-roomy, stays, settled-none, settled-some}
-use Rattle.market_events.proofs.HoldLaws.{held-sound, hold-room}
+use Rattle.market_snapshots.proofs.SnapshotLaws.{base-word, line-is, line-at, safe-as, changed-here, changed-limits, changed-self, changed-roomy, stays, settled-none, settled-some}
+use Rattle.market_snapshots.proofs.HoldLaws.{held-sound, hold-room}
 
 -- ---- the log's entry of a number
 

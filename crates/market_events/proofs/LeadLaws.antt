@@ -33,11 +33,11 @@ use Rattle.store.proofs.ConnLaws.{lines-count, lined-sound}
 use Rattle.store.proofs.EntryLaws.{entry-count, log-ends, market-limits, counts}
 use Rattle.moves.specs.Does.{Goes, Does, Ready, PushRoom}
 use Rattle.market.specs.Lent.{Lent, lent, lineFor, Answers, Roomy}
-use Rattle.market_events.specs.Settled.{Leads}
+use Rattle.market_snapshots.specs.Settled.{Leads}
 use Rattle.moves.proofs.DoesLaws.{goes-then, goes-is, does-market}
 use Rattle.market.proofs.AnswerLaws.{ready-at}
 use Rattle.moves.proofs.LiningReads.{entry-base}
-use Rattle.market_events.proofs.SnapshotLaws.{base-word, line-here, line-is, line-past, line-sound, room-one}
+use Rattle.market_snapshots.proofs.SnapshotLaws.{base-word, line-here, line-is, line-past, line-sound, room-one}
 use Rattle.market_events.proofs.EventLaws.{lead-fails, lead-same, lead-other, lead-5, lead-9, lead-new, book-refused, book-stays, book-just, book-did}
 
 -- ---- a number that the log has, or had

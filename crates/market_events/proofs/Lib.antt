@@ -1,5 +1,2 @@
-pub mod SnapshotLaws
-pub mod HoldLaws
-pub mod WaitingLaws
 pub mod EventLaws
 pub mod LeadLaws

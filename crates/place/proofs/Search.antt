@@ -1,10 +1,10 @@
--- The two loops of `alignment` over lists and numbers: what each has come to, as a record, and a law for each way through a turn.
+-- The two loops of `one_place` over lists and numbers: what each has come to, as a record, and a law for each way through a turn.
 use mathlib.Core.Path.{_≡_, refl, sym, ap, _∙_}
 use mathlib.Core.List.{List, [], _∷_, _++_, map}
 use mathlib.Core.Option.{Option, none, some}
 use mathlib.Core.Logic.{⊎-elim}
-use mathlib.Core.Bool.{Bool, true, false}
-use Prim.Native.Nat.{ℕ, _+_, _*_, _-_, _≤_, _<_}
+use mathlib.Core.Bool.{Bool, true, false, cond}
+use Prim.Native.Nat.{ℕ, zero, suc, _+_, _*_, _-_, _≤_, _<_}
 use native.Mathlib.Nat.{add-zero, sub-self}
 use native.Mathlib.Omega.{arith}
 use lib.ListN.{length, getD, drop, length-drop, drop-of-length-le}
@@ -19,7 +19,7 @@ use Rattle.words.proofs.Tab.{length-tab}
 use Rattle.words.proofs.Cases.{below-or}
 use Rattle.place.specs.declared.Place.{Place}
 use Rattle.place.specs.declared.Place.the-variants as Place
-use Rattle.place.specs.Items.{placeOf}
+use Rattle.place.specs.Items.{placeOf, Passed}
 use Rattle.words.proofs.Tab.{drop-tab-cons}
 use Rattle.place.proofs.Next.{Stop, Next, heldFrom, itemKey, held-event, held-end}
 use Rattle.place.proofs.Counting as find
@@ -85,6 +85,58 @@ module _ (items : List ℕ) (held j x : ℕ) (e : drop j (heldFrom items held 0)
 
   long-drop : length (heldFrom items held 0) - j ≡ length (heldFrom items held x)
   long-drop = sym (length-drop j (heldFrom items held 0)) ∙ ap length e
+
+-- entries whose keys have another first word than the first held event's are no candidates
+abbrev pub firstWord : List ℕ → ℕ → ℕ
+firstWord items first = getD items (4 * first + 1) 0
+
+module _ (quiet : Bool) (keys : List ℕ) (count : ℕ) (items : List ℕ) (held first : ℕ) (h : first < held) (n : Next items held 0 first) where
+  entry-off : (e : ℕ) → e < count → (getD keys (2 * e) 0 ≡ firstWord items first → ⊥) → counts quiet (heldFrom items held 0) (keysIn count keys) (0, e) ≡ false
+  entry-off e l d =
+      let hs : heldFrom items held 0 ≡ itemKey items first ∷ heldFrom items held (first + 1) =
+      ap (map (λ e. e .0)) (n .rest) ∙ held-event items held first h (n .stop)
+      in
+      let z : fits (heldFrom items held 0) (logFrom keys count e) ≡ none =
+      rw (hs, log-step keys count e l) (find.fits-differ _ _ _ _ (find.differ-0 (itemKey items first) (keyIn keys e) (λ p. d (sym p))))
+      in find.counts-none quiet (heldFrom items held 0) (keysIn count keys) (0, e) z
+
+  passed : (j q r : ℕ) → Passed keys count (firstWord items first) q r
+      → counting quiet keys count items held (left-places items held count q j) ≡ counting quiet keys count items held (left-places items held count r j)
+  passed j q r p = go (r - q) q (omega (arith, p .past)) (p .none)
+    where
+      go : (d q : ℕ) → q + d ≡ r → ((e : ℕ) → q ≤ e → e < r → getD keys (2 * e) 0 ≡ firstWord items first → ⊥)
+          → counting quiet keys count items held (left-places items held count q j) ≡ counting quiet keys count items held (left-places items held count r j)
+      go zero q e f = let z : q ≡ r = omega arith in ap (λ (x : ℕ). counting quiet keys count items held (left-places items held count x j)) z
+      go (suc d) q e f =
+          let l : q < count = omega (arith, p .inside) in
+          let s : counting quiet keys count items held (left-places items held count q j) ≡ counting quiet keys count items held (left-places items held count (q + 1) j) =
+          rw (find.left-first (length (heldFrom items held 0)) count q j l, entry-off q l (f q (omega arith) (omega arith)))
+          in s ∙ go d (q + 1) (omega arith) (λ i a b. f i (omega arith) b)
+
+  ahead-of : {q x j : ℕ} (r : ℕ) → r ≤ count → Ahead items count held first q x j → Ahead items count held first r x j
+  ahead-of r i a =
+      record { head = a .head; head-in = a .head-in; q-in = i; x-in = a .x-in; j-in = a .j-in; stop = a .stop; rest = a .rest }
+
+  pub pass : {base : ℕ} {found : Place} {q x j r : ℕ} → Search quiet keys count base items held first found q x j → Passed keys count (firstWord items first) q r
+      → Search quiet keys count base items held first found r x j
+  pass {q = q} {j = j} {r = r} s p =
+      record { ahead = ahead-of r (p .inside) (s .ahead); one = s .one; is = s .is; all = s .all ∙ ap (λ z. seen (s .one) ++ z) (passed j q r p) }
+
+  pub pass-walk : {base : ℕ} {found : Place} {q x j cj start i l r : ℕ} → Walk quiet keys count base items held first found q x j cj start i l
+      → Passed keys count (firstWord items first) q r → Walk quiet keys count base items held first found r x j cj start i l
+  pass-walk {q = q} {j = j} {cj = cj} {start = start} {r = r} w p =
+      record {
+        ahead = ahead-of r (p .inside) (w .ahead);
+        one = w .one;
+        is = w .is;
+        all = w .all ∙ ap (λ z. seen (w .one) ++ cond (counts quiet (heldFrom items held 0) (keysIn count keys) (cj, start)) ((cj, start) ∷ z) z) (passed j q r p);
+        i-in = w .i-in;
+        stop = w .stop;
+        from = w .from;
+        l-in = w .l-in;
+        same = w .same;
+        long = w .long;
+      }
 
 pub search-start : (quiet : Bool) (keys : List ℕ) (count base : ℕ) (items : List ℕ) (held first x : ℕ) → first < held → Next items held 0 first → Next items held (first + 1) x
     → Search quiet keys count base items held first Place.Nowhere 0 x 1

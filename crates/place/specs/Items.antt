@@ -1,4 +1,5 @@
 -- The reading of a line's held items: four words each, kind, key, key, message.
+use mathlib.Core.Path.{_≡_}
 use mathlib.Core.List.{List}
 use mathlib.Core.Option.{Option, none, some}
 use mathlib.Core.Bool.{Bool, not}
@@ -48,3 +49,9 @@ pub record Counted (keys : List ℕ) (count base : ℕ) (items : List ℕ) (held
   pub log : 2 * count ≤ length keys
   pub line : 4 * held ≤ length items
   pub numbers : base + count < 2 ^ 64
+
+-- r is from `from` to count, and no entry before it has a key with the first word k
+pub record Passed (keys : List ℕ) (count k from r : ℕ) : Type 0 where
+  pub past : from ≤ r
+  pub inside : r ≤ count
+  pub none : (e : ℕ) → from ≤ e → e < r → getD keys (2 * e) 0 ≡ k → ⊥

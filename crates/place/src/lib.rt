@@ -6,11 +6,13 @@ ghost use mathlib.Core.Bool.{not};
 ghost use mathlib.Core.List.{[], _∷_, _++_};
 ghost use Prim.Native.Nat.{_+_, _*_, _≤_};
 ghost use lib.ListN.{length, drop};
+ghost use lib.Dec.{leb};
+ghost use Rattle.rules.specs.Quantities.{alignRun};
 ghost use Rattle.rules.specs.Lists.{any, index, nil};
 ghost use Rattle.rules.specs.Lines.{events, eventKeys, isSnapshot, snapshotOf};
 ghost use Rattle.rules.specs.Place.{alignment as aligned};
 ghost use Rattle.log.specs.Log.{keysIn};
-ghost use Rattle.place.specs.Items.{itemIn, itemsIn, isEvent, placeOf, Room, Counted};
+ghost use Rattle.place.specs.Items.{itemIn, itemsIn, isEvent, placeOf, Room, Counted, Passed};
 
 // The kind word of an event; a snapshot's is one more than its token.
 const EVENT: u64 = 0;
@@ -112,8 +114,60 @@ pub fn holds_token(items: &[u64], held: usize, t: u64) -> bool
     false
 }
 
+// Passes over entries, eight at a time, while no key among them has the first word k.
+fn pass_eights(keys: &[u64], count: usize, from: usize, k: u64) -> usize
+    requires { ⌜ (2 * count ≤ length (now keys)) × (from ≤ count) ⌝ }
+    ensures { λ r. ⌜ Passed (now (keys .entry)) count k from r ⌝ }
+{
+    let mut i = from;
+    while 8 <= count - i {
+        let p = 2 * i;
+        if keys[p] == k {
+            return i;
+        }
+        if keys[p + 2] == k {
+            return i;
+        }
+        if keys[p + 4] == k {
+            return i;
+        }
+        if keys[p + 6] == k {
+            return i;
+        }
+        if keys[p + 8] == k {
+            return i;
+        }
+        if keys[p + 10] == k {
+            return i;
+        }
+        if keys[p + 12] == k {
+            return i;
+        }
+        if keys[p + 14] == k {
+            return i;
+        }
+        i += 8;
+    }
+    i
+}
+
+// The first entry from `from` on whose key has the first word k; count where there is none.
+fn next_entry(keys: &[u64], count: usize, from: usize, k: u64) -> usize
+    requires { ⌜ (2 * count ≤ length (now keys)) × (from ≤ count) ⌝ }
+    ensures { λ r. ⌜ Passed (now (keys .entry)) count k from r ⌝ }
+{
+    let mut i = pass_eights(keys, count, from, k);
+    while i < count {
+        if keys[2 * i] == k {
+            return i;
+        }
+        i += 1;
+    }
+    i
+}
+
 // Where the held events line up with the log: the one place that counts, if exactly one does.
-pub fn alignment(
+fn one_place(
     keys: &[u64],
     count: usize,
     base: u64,
@@ -133,7 +187,8 @@ pub fn alignment(
     }
     let mut found = Place::Nowhere;
     // The next candidate: the first held event at entry q; past the log's end the j-th, item x, at entry 0.
-    let mut q: usize = 0;
+    // An entry where the first words of the keys differ is no candidate.
+    let mut q = next_entry(keys, count, 0, items[4 * first + 1]);
     let mut x = next_event(items, held, first + 1);
     let mut j: usize = 1;
     'places: loop {
@@ -142,7 +197,7 @@ pub fn alignment(
         let mut l = q;
         let mut cj: usize = 0;
         if q < count {
-            q += 1;
+            q = next_entry(keys, count, q + 1, items[4 * first + 1]);
         } else {
             if x >= held {
                 break 'places;
@@ -179,4 +234,46 @@ pub fn alignment(
         found = Place::At(cj, base + start as u64);
     }
     found
+}
+
+// Whether as many events are held as make a place count.
+fn holds_run(items: &[u64], held: usize) -> bool
+    requires { ⌜ 4 * held ≤ length (now items) ⌝ }
+    ensures { λ r. ⌜ r ≡ leb alignRun (length (eventKeys (itemsIn held (now (items .entry))))) ⌝ }
+{
+    let mut i = 0;
+    let mut n: usize = 0;
+    while i < held {
+        if items[4 * i] == EVENT {
+            n += 1;
+            if n == ALIGN_RUN {
+                return true;
+            }
+            i += 1;
+        } else {
+            i += 1;
+        }
+    }
+    false
+}
+
+// The same; with fewer events held than make a place count, only a quiet market has a place.
+pub fn alignment(
+    keys: &[u64],
+    count: usize,
+    base: u64,
+    items: &[u64],
+    held: usize,
+    quiet: bool,
+) -> Place
+    requires { ⌜ Counted (now keys) count base (now items) held ⌝ }
+    ensures { λ r. ⌜ r ≡ placeOf base (aligned quiet (eventKeys (itemsIn held (now (items .entry)))) (keysIn count (now (keys .entry)))) ⌝ }
+{
+    if quiet {
+        return one_place(keys, count, base, items, held, quiet);
+    }
+    if holds_run(items, held) {
+        return one_place(keys, count, base, items, held, quiet);
+    }
+    Place::Nowhere
 }

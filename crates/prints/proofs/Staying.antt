@@ -1,6 +1,6 @@
 -- The rows of the keys that stay, moved together.
 use mathlib.Core.Path.{_≡_, refl, sym, _∙_, ap, subst}
-use mathlib.Core.List.{List}
+use mathlib.Core.List.{List, [], _∷_}
 use mathlib.Core.Bool.{Bool, true, false}
 use Prim.Native.Nat.{ℕ, _+_, _-_, _*_, _≤_, _<_}
 use native.Mathlib.Nat.{zero-add}
@@ -8,7 +8,7 @@ use native.Mathlib.Omega.{arith}
 use lib.ListN.{length, getD}
 use lib.Dec.{leb}
 use borrow.Author.Tests.{le-leb, lt-leb}
-use Rattle.rules.specs.Lists.{any, keep}
+use Rattle.rules.specs.Lists.{any, keep, Each}
 use Rattle.rules.specs.Quantities.{same, age, otherKeep}
 use Rattle.rules.specs.Prints.{KeyRow, CountRow, before, ofKey, expirePrints}
 use Rattle.rules.specs.Sound.{TablesSound}
@@ -20,7 +20,7 @@ use Rattle.words.proofs.Cases.{says-yes, says-no}
 use Rattle.prints.specs.declared.Used.{Used}
 use Rattle.prints.specs.Area.{keyRow, countRow, keyAt, countAt, printsOf, Fits}
 use Rattle.prints.specs.Steps.{staying, CountsKept, KeysKept}
-use Rattle.prints.proofs.Lists.{Kept, kept-none, kept-yes, kept-no, any-keep-none, any-keep-at}
+use Rattle.prints.proofs.Lists.{each-of, Kept, kept-none, kept-yes, kept-no, any-keep-none, any-keep-at}
 use Rattle.prints.proofs.Sorted.{only}
 use Rattle.prints.proofs.Tables.{place, prints-eq, keys-sorted}
 use Rattle.prints.proofs.Merge.{Passed, passed-none, passed-key, passed-pair, passed-left}
@@ -180,3 +180,18 @@ module _ (c : ℕ) (u : Used) (t : ℕ) (w v v′ : List ℕ) (r r′ : ℕ) (f 
         (tab-ext r′ (countAt c v′) (countAt c v) (λ k l. ap countRow (q .others (c + k) (omega (arith, f .keys)))) ∙ p .kept),
     record { keys = omega (arith, q .fewer, f .keys); counts = omega (arith, p .fewer, f .counts) },
   )
+
+-- ---- nothing is too old
+keep-each : {A : Type 0} (s : A → Bool) (l : List A) → Each (λ x. s x ≡ true) l → keep s l ≡ l
+keep-each s [] e = refl
+keep-each s (x ∷ xs) (h, e) = rw h (ap (λ z. x ∷ z) (keep-each s xs e))
+
+module _ (c : ℕ) (u : Used) (t : ℕ) (w : List ℕ) (s : TablesSound (printsOf c w u)) where
+  pub expire-none : ((k : ℕ) → k < u .keys → stays t (keyAt w k) ≡ true) → printsOf c w u ≡ expirePrints t (printsOf c w u)
+  unfolding printsOf
+  expire-none f =
+      let ks : List KeyRow = tab (u .keys) (keyAt w) in
+      let cs : List CountRow = tab (u .counts) (countAt c w) in
+      let e : keep (stays t) ks ≡ ks = keep-each (stays t) ks (each-of (λ k. stays t k ≡ true) (u .keys) (keyAt w) f) in
+      let g : keep (λ r. any (ofKey (r .key)) ks) cs ≡ cs = keep-each (λ r. any (ofKey (r .key)) ks) cs (s .keyed) in
+      prints-eq (sym e) (sym (ap (λ z. keep (λ r. any (ofKey (r .key)) z) cs) e ∙ g))

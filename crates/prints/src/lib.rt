@@ -2,7 +2,7 @@
 // then rows for counts (k0, k1, connection, delivered). Both are kept in rising order.
 ghost use mathlib.Core.Path.{_≡_};
 ghost use mathlib.Core.Bool.{true, not, _&&_};
-ghost use Prim.Native.Nat.{_+_, _*_, _≤_, _<_};
+ghost use Prim.Native.Nat.{ℕ, _+_, _*_, _≤_, _<_};
 ghost use lib.ListN.{length};
 ghost use lib.Dec.{leb};
 ghost use Rattle.rules.specs.Lists.{any};
@@ -245,6 +245,22 @@ fn keep_keys(area: &mut [u64], n: usize, t: u64) -> usize
     j
 }
 
+// Whether each of the first n keys stays at t.
+fn all_fresh(area: &[u64], n: usize, t: u64) -> bool
+    requires { ⌜ 4 * n ≤ length (now area) ⌝ }
+    ensures { λ r. ⌜ (r ≡ true → (k : ℕ) → k < n → leb (age t (keyAt (now (area .entry)) k .touched)) otherKeep ≡ true) ⌝ }
+{
+    let mut i = 0;
+    while i < n {
+        if fresh(area, i, t) {
+            i += 1;
+        } else {
+            return false;
+        }
+    }
+    true
+}
+
 // Keys untouched for longer than OTHER_KEEP go, with all their rows.
 pub fn expire(area: &mut [u64], c: usize, used: Used, t: u64) -> Used
     requires { ⌜ Fits c (now area) used ⌝ }
@@ -252,6 +268,9 @@ pub fn expire(area: &mut [u64], c: usize, used: Used, t: u64) -> Used
     ensures { λ r. ⌜ printsOf c (now (area .exit)) r ≡ expirePrints t (printsOf c (now (area .entry)) used) ⌝ }
     ensures { λ r. ⌜ Fits c (now (area .exit)) r ⌝ }
 {
+    if all_fresh(area, used.keys, t) {
+        return used;
+    }
     let counts = keep_counts(area, c, used, t);
     let keys = keep_keys(area, used.keys, t);
     Used { keys, counts }

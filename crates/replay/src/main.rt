@@ -215,6 +215,6 @@ fn main() {
         C: 32,
         D: 128,
     };
-    calls::setup(&mut s, limits, 0);
+    setup::setup(&mut s, limits, 0);
     run(&mut s, &mut out, &mut reports, &mut text, &mut input);
 }

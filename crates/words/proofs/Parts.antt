@@ -1,12 +1,12 @@
 -- Laws of parts that are lent and come back.
-use mathlib.Core.Path.{_≡_, refl, sym, ap, _∙_, subst}
+use mathlib.Core.Path.{_≡_, refl, sym, ap, _∙_}
 use mathlib.Core.List.{List, [], _∷_, _++_}
-use Prim.Native.Nat.{ℕ, zero, suc, _+_, _-_, _*_, _≤_, _<_, min}
-use native.Mathlib.Nat.{add-zero, le-of-suc-le-suc}
+use Prim.Native.Nat.{ℕ, zero, suc, _+_, _-_, _≤_, _<_}
+use native.Mathlib.Nat.{add-zero}
 use native.Mathlib.Omega.{arith}
-use lib.ListN.{length, take, drop, getD, set, length-take, length-drop, length-append, length-set, List·getD-append}
+use lib.ListN.{length, take, drop, getD, set, length-take, length-drop, length-append, List·getD-append}
 use Rattle.words.specs.Words.{part, back}
-use lib.Seq.{getD-take, getD-drop, getD-append-add, ext-getD, getD-set-same, getD-set-other}
+use lib.Seq.{getD-take, getD-drop, getD-append-add, ext-getD}
 
 pub part-length : (a e : ℕ) (w : List ℕ) → e ≤ length w → length (part a e w) ≡ e - a
 part-length a e w h = simp (length-take, length-drop) (omega arith)

@@ -1,5 +1,5 @@
--- `clear_lent` meets its contract: a walk of its MIR, by hand. The local's cell is lent to `log::lent::clear` for a lifetime that the walk makes and ends, and comes back at what that function left in it.
--- All that the proof knows of `log::lent::clear` is that it meets its contract.
+-- `clear_lent` meets its contract: a walk of its MIR, by hand. The local's cell is lent to `log_borrowed::lent::clear` for a lifetime that the walk makes and ends, and comes back at what that function left in it.
+-- All that the proof knows of `log_borrowed::lent::clear` is that it meets its contract.
 -- Assumes nothing.
 use mathlib.Core.Path.{refl}
 use Prim.Native.Nat.{ℕ}
@@ -42,10 +42,10 @@ use Rattle.log.specs.declared.Head.{Head}
 use Rattle.log.proofs.Head as T
 use Rattle.log.proofs.Head.Laws as T′
 use Rattle.log.proofs.Claims.{CanClear, Cleared, ClearedCounts, says-both, both-heard}
-use Rattle.log.proofs.lent.clear as callee
-use Rattle.log.proofs.lent.clear.Symbol as callee-def
-use Rattle.log.proofs.lent.clear.Symbol.{name as #log·lent·clear}
-use Rattle.log.proofs.lent.clear.Met as callee-thm
+use Rattle.log_borrowed.proofs.lent.clear as callee
+use Rattle.log_borrowed.proofs.lent.clear.Symbol as callee-def
+use Rattle.log_borrowed.proofs.lent.clear.Symbol.{name as #log-borrowed·lent·clear}
+use Rattle.log_borrowed.proofs.lent.clear.Met as callee-thm
 use Rattle.log_forms.proofs.Lending.{machine, cell-in, cell-out}
 use Rattle.log_forms.proofs.clear_lent.Key.{name as #log_forms·clear-lent}
 use Rattle.log_forms.proofs.clear_lent as f
@@ -82,7 +82,7 @@ module _ {M : Type 1} (𝓤 : URA M) (H : Heap 𝓤) (A : Atoms 𝓤) (W : Given
       suffices ! _ (ends-at 𝓤 H A f.ended stayed (f.clauses 𝓤 H A at-mem run) W ((tt, tt, tt, (h, tt), (machine h ∷ [], tt)), tt) (machine r) r (tt, tt) (tt, tt)) $ says-both ! (e .0) (e .1) $
       nothing ! $ frame ! $ nothing ! $ owned ! T.the-row (Is T.the-row) ((LL.makes T.the-type T′.the-plain) 𝓤 H A) h _ was $ fjoin ! $ frame ! $ done !
 
-  module _ (C : Calls 𝓤 H) (Λ : Loops 𝓤 H) (fm : FmC 𝓤 H (W .laws) C) (known : Triple 𝓤 (C #log·lent·clear) (Clear 𝓤 H A at-mem run)) where
+  module _ (C : Calls 𝓤 H) (Λ : Loops 𝓤 H) (fm : FmC 𝓤 H (W .laws) C) (known : Triple 𝓤 (C #log-borrowed·lent·clear) (Clear 𝓤 H A at-mem run)) where
     walk : CanClear h → Is T.the-row h (machine h ∷ []) → ent 𝓤 (onEntry 𝓤 H A f.signature tt tt (h, tt) (machine h ∷ [], tt)) (WpFn 𝓤 H C Λ code.function (machine h ∷ []) Post)
     walk can was =
         qed W (‵ ftrue ∷ ‵ (owns (T.the-row ∷ []) (h, tt) (machine h ∷ [], tt)) ∷ []) ∵ enter ! C Λ code.function (machine h ∷ []) _ $
@@ -115,11 +115,11 @@ module _ {M : Type 1} (𝓤 : URA M) (H : Heap 𝓤) (A : Atoms 𝓤) (W : Given
         keep ! (0 ∷ []) $ by ! (exits (rs .0) e was))))))))))))))
 
 module _ {M : Type 1} (𝓤 : URA M) (H : Heap 𝓤) (A : Atoms 𝓤) (W : Given 𝓤 H A) (mem : Memory → SProp 𝓤) (run : Routine → Fun 𝓤) where
-  walks : (C : Calls 𝓤 H) (Λ : Loops 𝓤 H) → FmC 𝓤 H (W .laws) C → Triple 𝓤 (C #log·lent·clear) (Clear 𝓤 H A mem run) → Walks 𝓤 H A f.ended stayed (WpFn 𝓤 H C Λ code.function) (f.clauses 𝓤 H A mem run)
+  walks : (C : Calls 𝓤 H) (Λ : Loops 𝓤 H) → FmC 𝓤 H (W .laws) C → Triple 𝓤 (C #log-borrowed·lent·clear) (Clear 𝓤 H A mem run) → Walks 𝓤 H A f.ended stayed (WpFn 𝓤 H C Λ code.function) (f.clauses 𝓤 H A mem run)
   walks C Λ fm known = walked 𝓤 H A f.ended stayed (f.clauses 𝓤 H A mem run) (WpFn 𝓤 H C Λ code.function) (λ κs. (LL.vals T.the-type T′.the-laws, tt)) (λ κs. (LL.tells T.the-type T′.the-laws, tt))
       (λ κs qs bounds a g are. needs 𝓤 (CanClear (a .0)) _ (λ can. walk 𝓤 H A W mem run (a .0) C Λ fm known can (are .0)))
 
-meets : {M : Type 1} (𝓤 : URA M) (H : Heap 𝓤) (A : Atoms 𝓤) → Given 𝓤 H A → (mem : Memory → SProp 𝓤) (run : Routine → Fun 𝓤) (𝓣 : Tables 𝓤 H) → Triple 𝓤 (𝓣 .C #log·lent·clear) (Clear 𝓤 H A mem run)
+meets : {M : Type 1} (𝓤 : URA M) (H : Heap 𝓤) (A : Atoms 𝓤) → Given 𝓤 H A → (mem : Memory → SProp 𝓤) (run : Routine → Fun 𝓤) (𝓣 : Tables 𝓤 H) → Triple 𝓤 (𝓣 .C #log-borrowed·lent·clear) (Clear 𝓤 H A mem run)
     → Meets 𝓤 H A f.signature (WpFn 𝓤 H (𝓣 .C) (𝓣 .Λ) code.function) (f.spec 𝓤 H A mem run)
 meets 𝓤 H A W mem run 𝓣 known =
     walk-meets 𝓤 H A f.ended stayed W (goes-none 𝓤 H A W 0 (λ _. T.the-row) yes (λ κs x f. refl), tt) (f.clauses 𝓤 H A mem run)
@@ -131,4 +131,4 @@ clear-lent-spec 𝓤 H 𝓜 𝓖 𝓡 =
     entered 𝓤 H (tripleOf 𝓤 H (𝓖 .A) f.signature (f.spec 𝓤 H (𝓖 .A) (𝓜 .mem) (𝓡 .run)))
     (tables 𝓤 H 𝓜 𝓡 code.env .C) (tables 𝓤 H 𝓜 𝓡 code.env .Λ) #log_forms·clear-lent code.function (code.unfolded 𝓤 H 𝓜 𝓡)
     (meets 𝓤 H (𝓖 .A) (givenOf 𝓤 H 𝓜 𝓖) (𝓜 .mem) (𝓡 .run) (tablesOf 𝓤 H 𝓜 (tables 𝓤 H 𝓜 𝓡 code.env))
-    (cited 𝓤 H (Clear 𝓤 H (𝓖 .A) (𝓜 .mem) (𝓡 .run)) 𝓜 𝓡 code.env #log·lent·clear callee-def.routine code.calls-log·lent·clear (callee-thm.met 𝓤 H 𝓜 𝓖 𝓡)))
+    (cited 𝓤 H (Clear 𝓤 H (𝓖 .A) (𝓜 .mem) (𝓡 .run)) 𝓜 𝓡 code.env #log-borrowed·lent·clear callee-def.routine code.calls-log-borrowed·lent·clear (callee-thm.met 𝓤 H 𝓜 𝓖 𝓡)))

@@ -1,6 +1,6 @@
 use mathlib.Core.Path.{ap, _∙_}
 use Rattle.log.specs.Answers.{keyAnswer}
-use Rattle.log.proofs.ViewLaws.{view-key-at}
+use Rattle.log_borrowed.proofs.ViewLaws.{view-key-at}
 use borrow.Author.Needs.{needs}
 use Rattle.log_forms.proofs.key_by_view.Statement.{statement}
 use Rattle.log_forms.proofs.key_by_view.Tie as tie

@@ -4,7 +4,7 @@ use lib.ListN.{drop}
 use Rattle.rules.specs.Place.{fits}
 use Rattle.log.specs.Log.{keysIn}
 use Rattle.log.specs.Answers.{matchAnswer}
-use Rattle.log.proofs.ViewLaws.{view-log-keys}
+use Rattle.log_borrowed.proofs.ViewLaws.{view-log-keys}
 use borrow.Author.Needs.{needs}
 use Rattle.log_forms.proofs.match_by_view.Statement.{statement}
 use Rattle.log_forms.proofs.match_by_view.Tie as tie

@@ -1,5 +1,5 @@
--- `push_lent` meets its contract: a walk of its MIR, by hand. The local's cell is lent to `log::lent::push` for a lifetime that the walk makes and ends, and comes back at what that function left in it; the area's borrow is given up for good.
--- All that the proof knows of `log::lent::push` is that it meets its contract.
+-- `push_lent` meets its contract: a walk of its MIR, by hand. The local's cell is lent to `log_borrowed::lent::push` for a lifetime that the walk makes and ends, and comes back at what that function left in it; the area's borrow is given up for good.
+-- All that the proof knows of `log_borrowed::lent::push` is that it meets its contract.
 -- Assumes nothing.
 use mathlib.Core.Path.{_≡_, refl}
 use Prim.Native.Nat.{ℕ, _<_, _^_}
@@ -49,10 +49,10 @@ use Rattle.log.specs.declared.Head.{Head}
 use Rattle.log.proofs.Head as T
 use Rattle.log.proofs.Head.Laws as T′
 use Rattle.log.proofs.Claims.{CanPush, Pushed, PushedFits, says-both, both-heard}
-use Rattle.log.proofs.lent.push as callee
-use Rattle.log.proofs.lent.push.Symbol as callee-def
-use Rattle.log.proofs.lent.push.Symbol.{name as #log·lent·push}
-use Rattle.log.proofs.lent.push.Met as callee-thm
+use Rattle.log_borrowed.proofs.lent.push as callee
+use Rattle.log_borrowed.proofs.lent.push.Symbol as callee-def
+use Rattle.log_borrowed.proofs.lent.push.Symbol.{name as #log-borrowed·lent·push}
+use Rattle.log_borrowed.proofs.lent.push.Met as callee-thm
 use Rattle.log_forms.proofs.Lending.{machine, cell-in, cell-out}
 use Rattle.log_forms.proofs.push_lent.Key.{name as #log_forms·push-lent}
 use Rattle.log_forms.proofs.push_lent as f
@@ -131,7 +131,7 @@ module _ {M : Type 1} (𝓤 : URA M) (H : Heap 𝓤) (A : Atoms 𝓤) (W : Given
       owned ! T.the-row (Is T.the-row) ((LL.makes T.the-type T′.the-plain) 𝓤 H A) h _ was $ fjoin ! $ owned ! usize (Is usize) (uint-makes 𝓤 H A W w64) g _ (refl, g-fits) $ fjoin ! $
       move ! (2 ∷ 0 ∷ []) $ fjoin ! $ frame ! $ done !
 
-  module _ (C : Calls 𝓤 H) (Λ : Loops 𝓤 H) (fm : FmC 𝓤 H (W .laws) C) (known : Triple 𝓤 (C #log·lent·push) (Push 𝓤 H A at-mem run)) where
+  module _ (C : Calls 𝓤 H) (Λ : Loops 𝓤 H) (fm : FmC 𝓤 H (W .laws) C) (known : Triple 𝓤 (C #log-borrowed·lent·push) (Push 𝓤 H A at-mem run)) where
     walk : Room u64 (length ys) → CanPush g ys h → Is T.the-row h (machine h ∷ []) → Is K.the-row k (key-mach ∷ []) → ent 𝓤 (onEntry 𝓤 H A f.signature (κ, tt) (q, tt) a vals) (WpFn 𝓤 H C Λ code.function flat Post)
     walk room can was key-was =
         qed W ((‵ (flft κ q) ⊛ ‵ ftrue) ∷ ‵ (owns (MutSlice (named 0) κ u64 ∷ usize ∷ T.the-row ∷ K.the-row ∷ u64 ∷ []) a vals) ∷ []) ∵ enter ! C Λ code.function flat _ $
@@ -172,7 +172,7 @@ module _ {M : Type 1} (𝓤 : URA M) (H : Heap 𝓤) (A : Atoms 𝓤) (W : Given
         keep ! (0 ∷ 1 ∷ 2 ∷ 3 ∷ []) $ by ! (exits (zs .1 .1 .0) (zs .0) e l was key-was)))))))))))))))))))))
 
 module _ {M : Type 1} (𝓤 : URA M) (H : Heap 𝓤) (A : Atoms 𝓤) (W : Given 𝓤 H A) (mem : Memory → SProp 𝓤) (run : Routine → Fun 𝓤) where
-  walks : (C : Calls 𝓤 H) (Λ : Loops 𝓤 H) → FmC 𝓤 H (W .laws) C → Triple 𝓤 (C #log·lent·push) (Push 𝓤 H A mem run) → Walks 𝓤 H A f.ended stayed (WpFn 𝓤 H C Λ code.function) (f.clauses 𝓤 H A mem run)
+  walks : (C : Calls 𝓤 H) (Λ : Loops 𝓤 H) → FmC 𝓤 H (W .laws) C → Triple 𝓤 (C #log-borrowed·lent·push) (Push 𝓤 H A mem run) → Walks 𝓤 H A f.ended stayed (WpFn 𝓤 H C Λ code.function) (f.clauses 𝓤 H A mem run)
   walks C Λ fm known = walked 𝓤 H A f.ended stayed (f.clauses 𝓤 H A mem run) (WpFn 𝓤 H C Λ code.function)
       (λ κs. (slice-vals, (uint-vals w64, (LL.vals T.the-type T′.the-laws, (LL.vals K.the-type K′.the-laws, (uint-vals w64, tt))))))
       (λ κs. (mut-slice-tells (named 0) (κs .0) u64, (uint-tells w64, (LL.tells T.the-type T′.the-laws, (LL.tells K.the-type K′.the-laws, (uint-tells w64, tt))))))
@@ -180,7 +180,7 @@ module _ {M : Type 1} (𝓤 : URA M) (H : Heap 𝓤) (A : Atoms 𝓤) (W : Given
       walk 𝓤 H A W mem run (κs .0) (qs .0) (a .0 .ptr .0) (a .0 .ptr .1) (a .0 .name) (a .0 .now) (a .1 .0) (a .1 .1 .0) (a .1 .1 .1 .0) (a .1 .1 .1 .1 .0)
       (are .1 .0 .1) (are .1 .1 .1 .1 .0 .1) C Λ fm known (are .0 .0 .1) can (are .1 .1 .0) (are .1 .1 .1 .0)))
 
-meets : {M : Type 1} (𝓤 : URA M) (H : Heap 𝓤) (A : Atoms 𝓤) → Given 𝓤 H A → (mem : Memory → SProp 𝓤) (run : Routine → Fun 𝓤) (𝓣 : Tables 𝓤 H) → Triple 𝓤 (𝓣 .C #log·lent·push) (Push 𝓤 H A mem run)
+meets : {M : Type 1} (𝓤 : URA M) (H : Heap 𝓤) (A : Atoms 𝓤) → Given 𝓤 H A → (mem : Memory → SProp 𝓤) (run : Routine → Fun 𝓤) (𝓣 : Tables 𝓤 H) → Triple 𝓤 (𝓣 .C #log-borrowed·lent·push) (Push 𝓤 H A mem run)
     → Meets 𝓤 H A f.signature (WpFn 𝓤 H (𝓣 .C) (𝓣 .Λ) code.function) (f.spec 𝓤 H A mem run)
 meets 𝓤 H A W mem run 𝓣 known =
     walk-meets 𝓤 H A f.ended stayed W
@@ -194,4 +194,4 @@ push-lent-spec 𝓤 H 𝓜 𝓖 𝓡 =
     entered 𝓤 H (tripleOf 𝓤 H (𝓖 .A) f.signature (f.spec 𝓤 H (𝓖 .A) (𝓜 .mem) (𝓡 .run)))
     (tables 𝓤 H 𝓜 𝓡 code.env .C) (tables 𝓤 H 𝓜 𝓡 code.env .Λ) #log_forms·push-lent code.function (code.unfolded 𝓤 H 𝓜 𝓡)
     (meets 𝓤 H (𝓖 .A) (givenOf 𝓤 H 𝓜 𝓖) (𝓜 .mem) (𝓡 .run) (tablesOf 𝓤 H 𝓜 (tables 𝓤 H 𝓜 𝓡 code.env))
-    (cited 𝓤 H (Push 𝓤 H (𝓖 .A) (𝓜 .mem) (𝓡 .run)) 𝓜 𝓡 code.env #log·lent·push callee-def.routine code.calls-log·lent·push (callee-thm.met 𝓤 H 𝓜 𝓖 𝓡)))
+    (cited 𝓤 H (Push 𝓤 H (𝓖 .A) (𝓜 .mem) (𝓡 .run)) 𝓜 𝓡 code.env #log-borrowed·lent·push callee-def.routine code.calls-log-borrowed·lent·push (callee-thm.met 𝓤 H 𝓜 𝓖 𝓡)))

@@ -1,67 +1,38 @@
-use mathlib.Core.Path.{_≡_}
-use Prim.Native.Nat.{_≤_, _-_}
+use mathlib.Core.Path.{_≡_, refl, _∙_}
+use mathlib.Core.List.{List}
+use Prim.Native.Nat.{ℕ, _+_, _≤_, _-_}
 use native.Mathlib.Omega.{arith}
-use borrow.Author.Needs.{needs}
+use lib.ListN.{length, getD, length-set}
 use Rattle.words.specs.Words.{Moved}
-use Rattle.words.proofs.Move.{moved-none, moved-more}
+use Rattle.words.proofs.Move.{moved-same, moved-more}
 use Rattle.words.proofs.move_down.Statement.{statement}
 use Rattle.words.proofs.move_down.Tie as tie
-use Rattle.words.proofs.move_down.Reads as reads
-use Rattle.words.proofs.move_down.Lts as lts
 
+-- what held of the words that the loop began with holds on
 abbrev Inv-loop : tie.InvT-loop
-Inv-loop s₀ from n i₀ s i = (i ≤ n) × Moved from s₀ s i
+Inv-loop s₀ from n i₀ s i = (i ≤ n) × ((v : List ℕ) → Moved from v s₀ i₀ → Moved from v s i) × (length s ≡ length s₀)
 
 abbrev μ-loop : tie.MeasureT-loop
 μ-loop s₀ from n i₀ s i = n - i
 
--- src/lib.rt:13:5
-loop-holds : tie.Need-loop-holds Inv-loop μ-loop
-loop-holds c = (search needs, moved-none _ _)
-
--- src/lib.rt:14:18
-add-s : tie.Need-add-s Inv-loop μ-loop
-add-s c = search needs
-
--- src/lib.rt:14:16
-mul-s : tie.Need-mul-s Inv-loop μ-loop
-mul-s c = search needs
-
--- src/lib.rt:14:16
-slice-read-s : tie.Need-slice-read-s Inv-loop μ-loop
-slice-read-s c = search needs
-
--- src/lib.rt:14:9
-mul-s-2 : tie.Need-mul-s-2 Inv-loop μ-loop
-mul-s-2 c = search needs
-
--- src/lib.rt:14:9
-slice-write-s : tie.Need-slice-write-s Inv-loop μ-loop
-slice-write-s c = search needs
-
--- src/lib.rt:15:9
-add-i : tie.Need-add-i Inv-loop μ-loop
-add-i c = search needs
-
--- src/lib.rt:13:5
-loop-less : tie.Need-loop-less Inv-loop μ-loop
-loop-less c = search needs
-
--- src/lib.rt:13:5
-loop-again : tie.Need-loop-again Inv-loop μ-loop
-loop-again c = let b = c .before .before in (search needs, moved-more _ _ _ _ (b .loop .inv .1) (omega arith))
-
--- src/lib.rt:8:1
-same-length : tie.Need-same-length Inv-loop μ-loop
-same-length c = c .before .loop .inv .1 .size
-
--- src/lib.rt:8:1
 returns : tie.Need-returns Inv-loop μ-loop
-returns c =
+returns c = rw (c .if1 .taken) (moved-same _ _)
+
+loop-again : tie.Need-loop-again Inv-loop μ-loop
+loop-again c =
+    let b = c .before .before .loop in
+    let a = c .before .before .before .before .before .before .before .before .before .args in
+    let z = b .inv .2 in
+    let y = c .before .before .before .before .before .move-fours .ensures .1 .size in
+    (omega arith, λ v m. moved-more _ v _ _ (b .inv .1 v m) (omega arith), length-set (b .s) (b .i) (getD (b .s) (a .from + b .i) 0) ∙ z)
+
+returns-2 : tie.Need-returns-2 Inv-loop μ-loop
+returns-2 c =
     let b = c .before .loop in
-    let a = c .before .before .args in
+    let f = c .before .before .before .before .move-fours .ensures in
+    let a = c .before .before .before .before .before .before .before .before .args in
     let q : b .i ≡ a .n = omega arith in
-    rw q at (b .inv .1)
+    rw q at (b .inv .1 _ (f .1))
 
 pub move-down-spec : {M : Type 1} → statement M
 move-down-spec =
@@ -69,14 +40,28 @@ move-down-spec =
     (tie.spec
     Inv-loop
     μ-loop
-    loop-holds
-    add-s
-    mul-s
-    slice-read-s
-    mul-s-2
-    slice-write-s
-    add-i
-    loop-less
+    returns
+    (λ c κs. c .before .before .before .pre)
+    (λ c. (c .before .before .move-fours .ensures .0, λ v m. m, refl))
+    (λ c.
+    let z = c .before .loop .inv .2 in
+    let y = c .before .before .before .before .move-fours .ensures .1 .size in omega arith)
+    (λ c.
+    let z = c .before .loop .inv .2 in
+    let y = c .before .before .before .before .move-fours .ensures .1 .size in omega arith)
+    (λ c.
+    let z = c .before .before .loop .inv .2 in
+    let y = c .before .before .before .before .before .move-fours .ensures .1 .size in omega arith)
+    (λ c.
+    let z = c .before .before .loop .inv .2 in
+    let y = c .before .before .before .before .before .move-fours .ensures .1 .size in omega arith)
+    (λ c.
+    let z = c .before .before .loop .inv .2 in
+    let y = c .before .before .before .before .before .move-fours .ensures .1 .size in omega arith)
+    (λ c.
+    let z = c .before .before .loop .inv .2 in
+    let y = c .before .before .before .before .before .move-fours .ensures .1 .size in omega arith)
+    (λ c. omega arith)
     loop-again
-    same-length
-    returns)
+    (λ c. c .before .loop .inv .2 ∙ c .before .before .before .before .move-fours .ensures .1 .size)
+    returns-2)

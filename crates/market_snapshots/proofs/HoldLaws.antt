@@ -1,0 +1,193 @@
+-- Laws of a line that holds one item more: it stays sound, its snapshot may be complete, it may take the market over.
+use mathlib.Core.Path.{_≡_, refl, sym, ap, _∙_, subst}
+use mathlib.Core.List.{List, [], _∷_, _++_}
+use mathlib.Core.Bool.{Bool, true, false, not, _&&_, cond}
+use Prim.Native.Nat.{ℕ, _+_, _^_, _≤_, _<_}
+use native.Mathlib.Omega.{arith}
+use lib.Dec.{leb}
+use lib.ListN.{length, getD, set, length-append}
+use lib.Seq.{getD-set-same, set-set}
+use Rattle.rules.specs.declared.Item.{Item}
+use Rattle.rules.specs.declared.Item.the-variants as Item
+use Rattle.rules.specs.declared.Limits.{Limits}
+use Rattle.rules.specs.declared.Stamp.the-variants as Stamp
+use Rattle.rules.specs.Lists.{any}
+use Rattle.rules.specs.Quantities.{areaItems, maxNumber, snapshotOut}
+use Rattle.rules.specs.Log.{end, stamp}
+use Rattle.rules.specs.Lines as Rules
+use Rattle.rules.specs.Lines.{Connection, Market, connAt, nobody, itemsOf, itemCount, someone, snapshotOf, withLog, withLines, setLine}
+use Rattle.rules.specs.Entering.{Work, begin, onMarket, noteEntry, putOut, pushOut, putItems, release, enter, takeOver}
+use Rattle.rules.specs.Calls.{refused, did, just, apply, held, released, fullLog, fullNumbers, snapshot}
+use Rattle.rules.specs.Answers.{word}
+use Rattle.rules.specs.Sound as Sounds
+use Rattle.rules.specs.Sound.{LineSound, Known}
+use Rattle.rules.proofs.Tests.{leb-false}
+use Rattle.rules.proofs.ListLaws.{each-append}
+use Rattle.rules.proofs.Moves.{putItems-grown}
+use Rattle.rules.proofs.SoundMoves.{setConn-sound}
+use Rattle.place.specs.Items.{kindOf, itemsIn}
+use Rattle.lines.specs.declared.Line.{Line}
+use Rattle.lines.specs.Line.{lineOf, holding, complete}
+use Rattle.lines.specs.Area.{headLine}
+use Rattle.store.specs.Store.{limitsOf, lineCount, lineWordsAt, marketOf, Sound}
+use Rattle.store.specs.Moves.{Moved}
+use Rattle.store.specs.ConnMoves.{itemsAt, NotFailed, ItemRoom}
+use Rattle.store.proofs.ConnLaws.{line-told, fits-sound}
+use Rattle.store.proofs.EntryLaws.{market-limits}
+use Rattle.market.specs.Lent.{lent, Answers, Roomy}
+use Rattle.market_snapshots.specs.Settled.{Settled, tried, completed}
+use Rattle.moves.proofs.LiningReads.{items-said}
+use Rattle.market_snapshots.proofs.SnapshotLaws.{line-here, line-sound, held-fits, shrunk, changed-here, changed-limits, changed-self, changed-roomy, stays, settled-none, settled-some}
+
+-- ---- one item more
+
+holding-kept : (lim : Limits) (e : ℕ) (item : Item) (l : Rules.Line) → LineSound lim e l → Known item → length (itemsOf l) < areaItems lim
+    → LineSound lim e (holding item l) × (length (itemsOf (holding item l)) ≤ length (itemsOf l) + 1)
+holding-kept lim e item (Rules.Waiting is since) s k r =
+    let n = length-append is (item ∷ []) in ((omega arith, each-append Known is (item ∷ []) (s .1) (k, tt)), omega arith)
+holding-kept lim e item (Rules.Pending is at since) s k r =
+    let n = length-append is (item ∷ []) in ((omega arith, each-append Known is (item ∷ []) (s .1) (k, tt)), omega arith)
+holding-kept lim e item (Rules.InLine n a b) s k r = (s, omega arith)
+holding-kept lim e item Rules.Failed s k r = (tt, omega arith)
+
+known-kind : (item : Item) → Known item → kindOf item < 2 ^ 64
+known-kind (Item.Snapshot t msg) k = omega arith
+known-kind (Item.Event key msg) k = omega arith
+
+module _ {w : List ℕ} {i : ℕ} (h : i < lineCount w) (s : Sound w) (item : Item) (k : Known item) (r : length (itemsOf ((connAt i (marketOf w)) .line)) < areaItems (limitsOf w)) where
+  pub held-sound : fullLog (marketOf w) ≡ false → fullNumbers (marketOf w) ≡ false → Sounds.Sound (setLine i (holding item ((connAt i (marketOf w)) .line)) (marketOf w))
+  held-sound f₅ f₉ =
+      let m = marketOf w in
+      let a : length (m .log .entries) + itemCount (m .lines) < m .limits .G = leb-false f₅ in
+      let b : end (m .log) + itemCount (m .lines) < maxNumber = leb-false f₉ in
+      let c = ap (λ (l : Limits). l .H) (market-limits w) in
+      let y = holding-kept (m .limits) (end (m .log)) item ((connAt i m) .line) (line-sound s h) k (omega arith) in
+      let z = y .1 in
+      setConn-sound m i (holding item ((connAt i m) .line)) ((connAt i m) .held) (s .market) (line-here s h) (y .0) (held-fits s h) (omega arith) (omega arith)
+
+  pub hold-room : NotFailed w i → ItemRoom w i item
+  hold-room f = record { fits = fits-sound w s i h; unfailed = f; room = r; kind = known-kind item k }
+
+-- ---- a line replaced twice
+
+set-twice : (i : ℕ) (l l′ : Rules.Line) (m : Market) → i < length (m .lines) → setLine i l′ (setLine i l m) ≡ setLine i l′ m
+set-twice i l l′ m h =
+    let c : Connection = record { conn = (connAt i m) .conn; line = l; held = (connAt i m) .held } in
+    ap (λ (x : Connection). withLines (set (set (m .lines) i c) i (record { conn = x .conn; line = l′; held = x .held })) m) (getD-set-same (m .lines) i c nobody h)
+    ∙ ap (λ (ls : List Connection). withLines ls m) (set-set (m .lines) i c (record { conn = c .conn; line = l′; held = c .held }))
+
+-- ---- a take-over does not go by the line that it replaces
+
+lines-aside : (c t : ℕ) (is : List Item) (ls : List Connection) (k : Work) → putItems c t is (onMarket (withLines ls) k) ≡ onMarket (withLines ls) (putItems c t is k)
+unfolding putItems pushOut
+lines-aside c t [] ls k = refl
+lines-aside c t (Item.Snapshot u msg ∷ is) ls k = lines-aside c t is ls (putOut (snapshotOut c msg) (onMarket (withLog (stamp t (k .market .log))) k))
+lines-aside c t (Item.Event key msg ∷ is) ls k = lines-aside c t is ls (pushOut c t key msg k)
+
+enter-aside : (i e n : ℕ) (a b : Bool) (c : Connection) (k : Work) → i < length (k .market .lines) → c .conn ≡ (connAt i (k .market)) .conn → c .held ≡ (connAt i (k .market)) .held
+    → enter i e n a b (onMarket (withLines (set (k .market .lines) i c)) k) ≡ enter i e n a b k
+unfolding enter
+enter-aside i e n a b c k h p q =
+    let ls = k .market .lines in
+    let x = getD-set-same ls i c nobody h in
+    let conn : (getD (set ls i c) i nobody) .conn ≡ (connAt i (k .market)) .conn = ap (λ (y : Connection). y .conn) x ∙ p in
+    let prints : (getD (set ls i c) i nobody) .held ≡ (connAt i (k .market)) .held = ap (λ (y : Connection). y .held) x ∙ q in
+    let into : ℕ → Connection = λ y. record { conn = y; line = Rules.InLine n a b; held = [] } in
+    let lines : set (set ls i c) i (into ((getD (set ls i c) i nobody) .conn)) ≡ set ls i (into ((connAt i (k .market)) .conn)) =
+    ap (λ (y : ℕ). set (set ls i c) i (into y)) conn ∙ set-set ls i c (into ((connAt i (k .market)) .conn)) in
+    λ j. release (conn j) (prints j) (noteEntry (conn j) e (onMarket (withLines (lines j)) k))
+
+pub takeOver-aside : (i : ℕ) (is : List Item) (t : ℕ) (l : Rules.Line) (m : Market) → i < length (m .lines) → takeOver i is t (begin (setLine i l m)) ≡ takeOver i is t (begin m)
+unfolding takeOver
+takeOver-aside i is t l m h =
+    let c : Connection = record { conn = (connAt i m) .conn; line = l; held = (connAt i m) .held } in
+    let ls = set (m .lines) i c in
+    let x = not (any (snapshotOf 0) is) in
+    let y = not (any (snapshotOf 1) is) in
+    let k = putItems ((connAt i m) .conn) t is (begin m) in
+    let into : Work → Work = λ z. enter i (end (m .log)) (end (z .market .log)) x y z in
+    let g : k .market .lines ≡ m .lines = putItems-grown ((connAt i m) .conn) t is (begin m) .lines in
+    let n = ap length g in
+    ap (λ (z : ℕ). into (putItems z t is (begin (setLine i l m)))) (ap (λ (z : Connection). z .conn) (getD-set-same (m .lines) i c nobody h))
+    ∙ ap into (lines-aside ((connAt i m) .conn) t is ls (begin m))
+    ∙ ap (λ (z : List Connection). enter i (end (m .log)) (end (k .market .log)) x y (onMarket (withLines (set z i c)) k)) (sym g)
+    ∙ enter-aside i (end (m .log)) (end (k .market .log)) x y c k (omega arith) (ap (λ (z : List Connection). (getD z i nobody) .conn) (sym g)) (ap (λ (z : List Connection). (getD z i nobody) .held) (sym g))
+
+-- ---- a snapshot that is complete
+
+complete-kept : (lim : Limits) (e t : ℕ) (l : Rules.Line) → LineSound lim e l → LineSound lim e (complete t l) × (length (itemsOf (complete t l)) ≤ length (itemsOf l))
+complete-kept lim e t (Rules.Waiting is since) s = (s, omega arith)
+complete-kept lim e t (Rules.Pending is at since) s = (s, omega arith)
+complete-kept lim e t (Rules.InLine n a b) s = (s, omega arith)
+complete-kept lim e t Rules.Failed s = (s, omega arith)
+
+module _ {w v : List ℕ} {i : ℕ} (t : ℕ) (r : Roomy w v) (h : i < lineCount w) where
+  module _ {is : List ℕ} {n : ℕ} {b : Bool} (u : ℕ) (e : n ≡ length (itemsOf ((connAt i (marketOf w)) .line))) (q : is ≡ itemsAt w i) (p : b ≡ any (snapshotOf u) (itemsIn n is)) where
+    pub token-said : {x : Bool} → b ≡ x → any (snapshotOf u) (itemsOf ((connAt i (marketOf w)) .line)) ≡ x
+    token-said y = sym (p ∙ ap (λ (z : List ℕ). any (snapshotOf u) (itemsIn n z)) q ∙ ap (any (snapshotOf u)) (items-said w i h n e)) ∙ y
+
+  module _ {x y : Bool} (a : any (snapshotOf 0) (itemsOf ((connAt i (marketOf w)) .line)) ≡ x) (b : any (snapshotOf 1) (itemsOf ((connAt i (marketOf w)) .line)) ≡ y) where
+    completed-by : completed i t (marketOf w) ≡ cond (x && y) (released held t (tried i t (setLine i (complete t ((connAt i (marketOf w)) .line)) (marketOf w)))) (just held (marketOf w))
+    completed-by j = cond (a j && b j) (released held t (tried i t (setLine i (complete t ((connAt i (marketOf w)) .line)) (marketOf w)))) (just held (marketOf w))
+
+    pub uncomplete : (x && y) ≡ false → Answers (completed i t (marketOf w)) (lent w v) (word held 0 0) (lent w v)
+    uncomplete e =
+        stays held (r .sound)
+        (completed-by ∙ ap (λ (c : Bool). cond c (released held t (tried i t (setLine i (complete t ((connAt i (marketOf w)) .line)) (marketOf w)))) (just held (marketOf w))) e)
+
+  module _ {w₁ : List ℕ} (self line : Line) (q : self ≡ headLine (lineWordsAt w i)) (e : (x : List ℕ) → lineOf line x ≡ complete t (lineOf self x))
+      (d : Moved w w₁ (setLine i (lineOf line (itemsAt w i)) (marketOf w))) where
+    complete-moved : Moved w w₁ (setLine i (complete t ((connAt i (marketOf w)) .line)) (marketOf w))
+    complete-moved = subst (λ (l : Rules.Line). Moved w w₁ (setLine i l (marketOf w))) (line-told w i h (complete t) (λ x. lineOf line x) self e q) d
+
+    pub complete-ready : Roomy w₁ v × (i < lineCount w₁)
+    complete-ready =
+        let l = complete t ((connAt i (marketOf w)) .line) in
+        let k = complete-kept (marketOf w .limits) (end (marketOf w .log)) t ((connAt i (marketOf w)) .line) (line-sound (r .sound) h) in
+        (changed-roomy l h r complete-moved (shrunk (r .sound) h l (k .0) (k .1)), changed-here l h r complete-moved)
+
+    module _ {w₂ v₂ : List ℕ} {n : ℕ} (a : any (snapshotOf 0) (itemsOf ((connAt i (marketOf w)) .line)) ≡ true) (b : any (snapshotOf 1) (itemsOf ((connAt i (marketOf w)) .line)) ≡ true)
+        (l : length w₂ ≡ length w) (g : Settled i t w₁ v w₂ v₂ n) where
+      completes : completed i t (marketOf w) ≡ released held t (tried i t (marketOf w₁))
+      completes = completed-by a b ∙ ap (λ (m : Market). released held t (tried i t m)) (sym (complete-moved .market))
+
+      pub complete-none : n ≡ 0 → Answers (completed i t (marketOf w)) (lent w v) (word held 0 0) (lent w₂ v₂)
+      complete-none z = settled-none held (r .sound) (complete-ready .0) (changed-self (complete t ((connAt i (marketOf w)) .line)) h r complete-moved) (changed-limits (complete t ((connAt i (marketOf w)) .line)) h r complete-moved) l g completes z
+
+      pub complete-some : (n ≡ 0 → ⊥) → Answers (completed i t (marketOf w)) (lent w v) (word apply n 0) (lent w₂ v₂)
+      complete-some z = settled-some held (r .sound) (complete-ready .0) (changed-self (complete t ((connAt i (marketOf w)) .line)) h r complete-moved) (changed-limits (complete t ((connAt i (marketOf w)) .line)) h r complete-moved) l g completes z
+
+-- ---- a snapshot to a Waiting line, by the rules
+
+module _ (i token msg t : ℕ) (m : Market) (is : List Item) (since : ℕ) where
+  pub snap-6 : leb (areaItems (m .limits)) (length is) ≡ true → snapshot i token msg t m (Rules.Waiting is since) ≡ refused 6
+  unfolding snapshot
+  snap-6 a = rw a
+
+  module _ (a : leb (areaItems (m .limits)) (length is) ≡ false) where
+    pub snap-5 : fullLog m ≡ true → snapshot i token msg t m (Rules.Waiting is since) ≡ refused 5
+    unfolding snapshot
+    snap-5 b = rw (a, b)
+
+    module _ (b : fullLog m ≡ false) where
+      pub snap-9 : fullNumbers m ≡ true → snapshot i token msg t m (Rules.Waiting is since) ≡ refused 9
+      unfolding snapshot
+      snap-9 c = rw (a, b, c)
+
+      module _ (c : fullNumbers m ≡ false) where
+        pub snap-led : i < length (m .lines) → someone (m .lines) ≡ true
+            → snapshot i token msg t m (Rules.Waiting is since) ≡ completed i t (setLine i (Rules.Waiting (is ++ (Item.Snapshot token msg ∷ [])) since) m)
+        unfolding snapshot
+        snap-led h e =
+            let is′ = is ++ (Item.Snapshot token msg ∷ []) in
+            let m₁ = setLine i (Rules.Waiting is′ since) m in
+            let x : Connection = record { conn = (connAt i m) .conn; line = Rules.Waiting is′ since; held = (connAt i m) .held } in
+            let q : (connAt i m₁) .line ≡ Rules.Waiting is′ since = ap (λ (y : Connection). y .line) (getD-set-same (m .lines) i x nobody h) in
+            let p : setLine i (Rules.Pending is′ (Stamp.At t) t) m ≡ setLine i (Rules.Pending is′ (Stamp.At t) t) m₁ = sym (set-twice i (Rules.Waiting is′ since) (Rules.Pending is′ (Stamp.At t) t) m h) in
+            rw (a, b, c, e)
+            (ap (λ (y : Market). cond (any (snapshotOf 0) is′ && any (snapshotOf 1) is′) (released held t (tried i t y)) (just held m₁)) p
+            ∙ ap (λ (l : Rules.Line). cond (any (snapshotOf 0) (itemsOf l) && any (snapshotOf 1) (itemsOf l)) (released held t (tried i t (setLine i (complete t l) m₁))) (just held m₁)) (sym q))
+
+        pub snap-over : someone (m .lines) ≡ false → snapshot i token msg t m (Rules.Waiting is since) ≡ did apply [] (takeOver i (is ++ (Item.Snapshot token msg ∷ [])) t (begin m))
+        unfolding snapshot
+        snap-over e = rw (a, b, c, e)

@@ -1,0 +1,3 @@
+pub mod SnapshotLaws
+pub mod HoldLaws
+pub mod WaitingLaws

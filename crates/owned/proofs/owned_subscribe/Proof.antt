@@ -1,0 +1,19 @@
+use borrow.Author.Needs.{needs}
+use Rattle.owned.proofs.owned_subscribe.Statement.{statement}
+use Rattle.owned.proofs.owned_subscribe.Tie as tie
+
+subscribe-requires : tie.Need-subscribe-requires
+subscribe-requires c κs = search needs
+
+of-changed-requires : tie.Need-of-changed-requires
+of-changed-requires c κs = search needs
+
+same-length : tie.Need-same-length
+same-length c = search needs
+
+returns : tie.Need-returns
+returns c = rw (← c .of-changed .ensures .0 .back) (c .before .before .before .subscribe .ensures)
+
+pub owned-subscribe-spec : {M : Type 1} → statement M
+owned-subscribe-spec =
+    tie.close (tie.spec subscribe-requires of-changed-requires same-length returns)

@@ -1,0 +1,1 @@
+// What every public call promises: specs/Meets.antt. There is no code.

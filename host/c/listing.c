@@ -1,0 +1,53 @@
+/* The listing of document 01 by a host in C: one connection, a snapshot, a book event, a print, and the end.
+ *
+ *     cc -I host/include host/c/listing.c target/staticlib/libexports.a -o listing
+ */
+#include "pollendrift.h"
+
+#include <inttypes.h>
+#include <stdio.h>
+
+enum { LINES = 4, HELD = 32, EVENTS = 128, KEYS = 32, PAIRS = 128 };
+
+static uint64_t store[MERGE_STORE_WORDS(LINES, HELD, EVENTS, KEYS, PAIRS)];
+static merge_record records[MERGE_RECORDS(LINES, HELD)];
+
+static const size_t WORDS = sizeof store / sizeof *store;
+static const size_t ROOM = MERGE_OUTPUT_WORDS(LINES, HELD);
+
+static const char *const ANSWERS[] = {"refused",  "done",   "apply", "duplicate", "held",   "ignored",
+                                      "diverged", "failed", "kept",  "gone",      "rebuild"};
+
+/* Prints an answer and its records. */
+static void print_answer(uint64_t code, uint64_t count) {
+    if (code == MERGE_REFUSED) {
+        printf("refused %" PRIu64 "\n", count);
+        return;
+    }
+    puts(ANSWERS[code]);
+    for (uint64_t i = 0; i < count; i++) {
+        const merge_record *r = &records[i];
+        printf("put %" PRIu64 " %c %" PRIu64 " %" PRIu64 " %" PRIu64 " %" PRIu64 " %" PRIu64 "\n", r->conn, "sbp"[r->kind],
+               r->number, r->key[0], r->key[1], r->message, r->times);
+    }
+}
+
+int main(void) {
+    uint64_t *out = (uint64_t *)records;
+    uint64_t code, count;
+    if (merge_setup(store, WORDS, LINES, HELD, EVENTS, KEYS, PAIRS, 0, &count) != MERGE_DONE) {
+        fprintf(stderr, "setup: refused %" PRIu64 "\n", count);
+        return 1;
+    }
+    code = merge_subscribe(store, WORDS, 1, 0, &count);
+    print_answer(code, count);
+    code = merge_snapshot(store, WORDS, out, ROOM, 1, 0, 10, 0, &count);
+    print_answer(code, count);
+    code = merge_book_event(store, WORDS, out, ROOM, 1, 7, 7, 11, 0, &count);
+    print_answer(code, count);
+    code = merge_print(store, WORDS, out, ROOM, 1, 9, 9, 12, 0, &count);
+    print_answer(code, count);
+    code = merge_drop(store, WORDS, out, ROOM, 1, 0, &count);
+    print_answer(code, count);
+    return 0;
+}

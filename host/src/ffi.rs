@@ -1,0 +1,95 @@
+//! The exported functions of `crates/exports` and `crates/owned`. A slice is a pointer and a length; the slices and pointers of one
+//! call may not overlap. The answer of a call is a code, see `store.rs`.
+//!
+//! The `owned_` functions ask for a sound store and do not test it: words that setup made and that nobody but they wrote since.
+
+extern "C" {
+    pub fn merge_setup(
+        store: *mut u64,
+        words: usize,
+        lines: u64,
+        held: u64,
+        events: u64,
+        keys: u64,
+        pairs: u64,
+        start: u64,
+        count: &mut u64,
+    ) -> u64;
+    pub fn owned_subscribe(
+        store: *mut u64,
+        words: usize,
+        conn: u64,
+        time: u64,
+        count: &mut u64,
+    ) -> u64;
+    pub fn owned_snapshot(
+        store: *mut u64,
+        words: usize,
+        out: *mut u64,
+        room: usize,
+        conn: u64,
+        token: u64,
+        message: u64,
+        time: u64,
+        count: &mut u64,
+    ) -> u64;
+    pub fn owned_book_event(
+        store: *mut u64,
+        words: usize,
+        out: *mut u64,
+        room: usize,
+        conn: u64,
+        key0: u64,
+        key1: u64,
+        message: u64,
+        time: u64,
+        count: &mut u64,
+    ) -> u64;
+    pub fn owned_print(
+        store: *mut u64,
+        words: usize,
+        out: *mut u64,
+        room: usize,
+        conn: u64,
+        key0: u64,
+        key1: u64,
+        message: u64,
+        time: u64,
+        count: &mut u64,
+    ) -> u64;
+    pub fn owned_drop(
+        store: *mut u64,
+        words: usize,
+        out: *mut u64,
+        room: usize,
+        conn: u64,
+        time: u64,
+        count: &mut u64,
+    ) -> u64;
+    pub fn owned_promote(
+        store: *mut u64,
+        words: usize,
+        out: *mut u64,
+        room: usize,
+        time: u64,
+        count: &mut u64,
+    ) -> u64;
+    pub fn owned_reset(store: *mut u64, words: usize, time: u64, count: &mut u64) -> u64;
+    pub fn owned_tick(
+        store: *mut u64,
+        words: usize,
+        out: *mut u64,
+        room: usize,
+        reports: *mut u64,
+        report_room: usize,
+        answers: *const u64,
+        answered: usize,
+        time: u64,
+        count: &mut u64,
+        reported: &mut u64,
+    ) -> u64;
+    pub fn owned_in_line(store: *const u64, words: usize, conn: u64) -> bool;
+    pub fn owned_any_in_line(store: *const u64, words: usize) -> bool;
+    pub fn owned_servable(store: *const u64, words: usize) -> bool;
+    pub fn merge_key(bytes: *const u8, length: usize, key0: &mut u64, key1: &mut u64);
+}

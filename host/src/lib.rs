@@ -1,0 +1,73 @@
+//! `MarketMerge` for Rust hosts: several market-data connections, one book per market.
+//!
+//! The types and functions are those of the original `feed_merge` module, generic over the host's message type. The work is done by
+//! the proved calls of this repository, linked as a static library (`crates/exports`). See README.md for how to switch and for what
+//! differs.
+#![deny(missing_docs, unsafe_op_in_unsafe_fn)]
+#![warn(clippy::undocumented_unsafe_blocks)]
+
+mod ffi;
+mod kept;
+mod key;
+mod limits;
+mod merge;
+mod refusal;
+mod store;
+mod types;
+
+pub use key::EventKey;
+pub use limits::Limits;
+pub use merge::MarketMerge;
+pub use refusal::Refusal;
+pub use types::{
+    Applied, ConnId, Expired, Lost, Step, ALIGN_RUN, ALIGN_TIMEOUT, LOG_KEEP, MAX_HELD, QUIET,
+};
+
+/// Names the types of this crate for one message type, as the original module has them: without a parameter.
+///
+/// ```
+/// mod feed_merge {
+///     pollendrift::drop_in!(String);
+/// }
+/// use feed_merge::{MarketMerge, Step};
+///
+/// struct Market {
+///     merge: MarketMerge,
+/// }
+///
+/// fn applied(step: Step) -> usize {
+///     match step {
+///         Step::Apply(out) => out.len(),
+///         _ => 0,
+///     }
+/// }
+///
+/// let mut market = Market { merge: MarketMerge::default() };
+/// let now = std::time::Instant::now();
+/// let step = market.merge.snapshot(1, 0, &"not subscribed".to_string(), now);
+/// assert_eq!(applied(step), 0);
+/// ```
+#[macro_export]
+macro_rules! drop_in {
+    ($message:ty) => {
+        #[allow(unused_imports)]
+        pub use $crate::{
+            ConnId, EventKey, Limits, Refusal, ALIGN_RUN, ALIGN_TIMEOUT, LOG_KEEP, MAX_HELD, QUIET,
+        };
+        /// One market's merge of its connections.
+        #[allow(dead_code)]
+        pub type MarketMerge = $crate::MarketMerge<$message>;
+        /// A message to apply.
+        #[allow(dead_code)]
+        pub type Applied = $crate::Applied<$message>;
+        /// What to do with a delivered message.
+        #[allow(dead_code)]
+        pub type Step = $crate::Step<$message>;
+        /// What became of the book.
+        #[allow(dead_code)]
+        pub type Lost = $crate::Lost<$message>;
+        /// What a tick did.
+        #[allow(dead_code)]
+        pub type Expired = $crate::Expired<$message>;
+    };
+}

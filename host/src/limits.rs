@@ -1,0 +1,65 @@
+/// Words of a put-out record.
+pub(crate) const RECORD: usize = 7;
+/// Words of a tick report.
+pub(crate) const REPORT: usize = 3;
+
+/// What a market's store takes; fixed at construction, and never exceeded: a call that would is refused
+/// ([`Refusal`](crate::Refusal)).
+///
+/// A store has 64 + lines × (7 × held + 64) + 3 × events + 4 × keys + 4 × pairs words of eight bytes, and its output list seven
+/// words for each of lines × (2 × held + 8) + 1 records. Both are taken as zeroed memory, of which the system provides what is
+/// written.
+///
+/// ```
+/// use pollendrift::{Limits, MarketMerge, Refusal};
+/// let small = Limits { lines: 4, held: 32, events: 128, keys: 32, pairs: 128 };
+/// assert!(MarketMerge::<String>::new(small).is_ok());
+/// let none = Limits { lines: 0, ..small };
+/// assert_eq!(MarketMerge::<String>::new(none).unwrap_err(), Refusal::Limits);
+/// ```
+#[derive(Clone, Copy, Debug, PartialEq, Eq, Hash)]
+pub struct Limits {
+    /// L: lines, one for each subscribed connection, failed ones included; 1 to 16.
+    pub lines: u64,
+    /// H: items that a line holds before a book event fails it, and prints that it holds; 1 to 5,000.
+    pub held: u64,
+    /// G: log entries and held items of all lines together; 1 to 1,048,576.
+    pub events: u64,
+    /// C: different prints that are counted at a time; 1 to 65,536.
+    pub keys: u64,
+    /// D: pairs of a print and a connection that delivered it; 1 to 65,536.
+    pub pairs: u64,
+}
+
+impl Default for Limits {
+    /// 16 lines, the original's 5,000 held messages a line, 131,072 events (16 full lines and 51,072 log entries, of which ten
+    /// seconds are kept), 16,384 print keys and 65,536 pairs (of the last thirty seconds). The store is then 10.3 MB and the
+    /// output list 9 MB at most.
+    fn default() -> Self {
+        Limits {
+            lines: 16,
+            held: 5_000,
+            events: 131_072,
+            keys: 16_384,
+            pairs: 65_536,
+        }
+    }
+}
+
+impl Limits {
+    /// Words of a store of limits in range.
+    pub(crate) fn store_words(&self) -> usize {
+        let lines = self.lines * (7 * self.held + 64);
+        (64 + lines + 3 * self.events + 4 * self.keys + 4 * self.pairs) as usize
+    }
+
+    /// Words of an output list that takes whatever a call may put out.
+    pub(crate) fn output_words(&self) -> usize {
+        RECORD * (self.lines * (2 * self.held + 8) + 1) as usize
+    }
+
+    /// Words of a list of reports that takes one for each line.
+    pub(crate) fn report_words(&self) -> usize {
+        REPORT * self.lines as usize
+    }
+}

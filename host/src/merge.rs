@@ -1,0 +1,264 @@
+use crate::kept::Kept;
+use crate::store::{self, Record, Store, Told};
+use crate::{Applied, ConnId, EventKey, Expired, Limits, Lost, Refusal, Step};
+use std::time::{Duration, Instant};
+
+/// How far before its construction a market's time begins.
+const BEFORE: Duration = Duration::from_secs(24 * 60 * 60);
+
+/// One market's merge of its connections: each book event is applied once, from the connection that delivers it first, in the
+/// venue's order; each print as often as the connection that delivered it most often.
+///
+/// It owns the words of its store and writes them by the proved calls alone. Of the host's messages it keeps a copy of those that
+/// the store holds, and of no others.
+///
+/// A time is counted in whole milliseconds from a day before the construction; an earlier one counts as that. The original compares
+/// times more finely: a limit of ten seconds may be reached up to a millisecond earlier or later here.
+///
+/// ```
+/// use pollendrift::{EventKey, MarketMerge, Step};
+/// use std::time::Instant;
+/// let mut merge = MarketMerge::default();
+/// let (now, key) = (Instant::now(), EventKey::new(7, 7));
+/// for conn in [1, 2] {
+///     merge.subscribe(conn, now)?;
+/// }
+/// assert!(matches!(merge.snapshot(1, 0, &"bids and asks", now), Step::Apply(_)));
+/// match merge.book_event(1, key, &"a change", now) {
+///     Step::Apply(out) => assert_eq!((out[0].conn, out[0].msg), (1, "a change")),
+///     other => panic!("{other:?}"),
+/// }
+/// // the second connection has no snapshot yet, so its copy is held
+/// assert_eq!(merge.book_event(2, key, &"a change", now), Step::Held);
+/// # Ok::<(), pollendrift::Refusal>(())
+/// ```
+pub struct MarketMerge<M> {
+    store: Store,
+    kept: Kept<M>,
+    zero: Instant,
+}
+
+impl<M> MarketMerge<M> {
+    /// An empty market of these limits, whose book events are numbered from 0.
+    ///
+    /// # Errors
+    /// [`Refusal::Limits`] where a limit is outside its range.
+    pub fn new(limits: Limits) -> Result<Self, Refusal> {
+        Self::with_start(limits, 0)
+    }
+
+    /// An empty market of these limits, whose book events are numbered from `start`.
+    ///
+    /// # Errors
+    /// [`Refusal::Limits`] where a limit is outside its range.
+    pub fn with_start(limits: Limits, start: u64) -> Result<Self, Refusal> {
+        let now = Instant::now();
+        Ok(MarketMerge {
+            store: Store::new(limits, start)?,
+            kept: Kept::new(),
+            zero: now.checked_sub(BEFORE).unwrap_or(now),
+        })
+    }
+
+    #[inline]
+    fn time(&self, now: Instant) -> u64 {
+        let age = now.saturating_duration_since(self.zero);
+        let whole = age.as_secs().saturating_mul(1_000);
+        whole.saturating_add(age.subsec_millis() as u64)
+    }
+
+    /// Whether the connection is in line.
+    pub fn in_line(&self, conn: ConnId) -> bool {
+        self.store.in_line(conn)
+    }
+
+    /// Whether some connection is in line.
+    pub fn any_in_line(&self) -> bool {
+        self.store.any_in_line()
+    }
+
+    /// Whether some connection is in line, waits for its snapshot or holds one. Otherwise the book needs a new subscription.
+    pub fn servable(&self) -> bool {
+        self.store.servable()
+    }
+
+    /// How many messages are kept for the host: those that the store holds.
+    pub fn held_messages(&self) -> usize {
+        self.kept.len()
+    }
+
+    /// The connection subscribed the market; its snapshots are due. What it held before is let go.
+    ///
+    /// # Errors
+    /// [`Refusal::Lines`] for a new connection where all lines are taken.
+    pub fn subscribe(&mut self, conn: ConnId, now: Instant) -> Result<(), Refusal> {
+        let told = self.store.subscribe(conn, self.time(now));
+        if told.code == store::REFUSED {
+            return Err(Refusal::of(told.count));
+        }
+        self.kept.insert(conn);
+        self.kept.follow(&self.store);
+        Ok(())
+    }
+
+    /// The connection closed. Where it was the last in line, one that holds a snapshot takes over (see [`MarketMerge::promote`]).
+    pub fn drop_conn(&mut self, conn: ConnId, now: Instant) -> Lost<M> {
+        let told = self.store.drop_conn(conn, self.time(now));
+        let lost = self.lost(told);
+        self.kept.remove(conn);
+        self.kept.follow(&self.store);
+        lost
+    }
+
+    /// Where no connection is in line: the connection with the latest complete snapshot takes over, else the latest subscribed one
+    /// that holds part of one; of equals the lowest.
+    pub fn promote(&mut self, now: Instant) -> Lost<M> {
+        let told = self.store.promote(self.time(now));
+        let lost = self.lost(told);
+        self.kept.follow(&self.store);
+        lost
+    }
+
+    fn lost(&mut self, told: Told) -> Lost<M> {
+        match told.code {
+            store::KEPT => Lost::Kept,
+            store::GONE => Lost::Gone,
+            store::REBUILD => Lost::Rebuild(self.put_out(0, told.count as usize)),
+            _ => told.never(),
+        }
+    }
+
+    /// The applied history is in doubt: nobody is in line until a connection that subscribes after now brings a snapshot, and every
+    /// line that has not failed holds its next events to line up with that.
+    pub fn reset(&mut self, now: Instant) {
+        let told = self.store.reset(self.time(now));
+        if told.code != store::DONE {
+            told.never();
+        }
+        self.kept.follow(&self.store);
+    }
+
+    /// Upkeep, to be called from time to time: forgets old log entries and prints, lines connections up and ends those that could
+    /// not. `same_view(messages)` says whether a connection that got just these messages, in order, would show the applied book.
+    ///
+    /// All views are asked before the tick, so `same_view` may be asked of a line where the original would not: one whose held
+    /// events do not match the log, or that an earlier line's turn lines up or keeps waiting. An answer that is not needed changes
+    /// nothing.
+    pub fn tick(&mut self, now: Instant, same_view: &dyn Fn(&[&M]) -> bool) -> Vec<Expired<M>> {
+        let t = self.time(now);
+        let kept = &self.kept;
+        let (told, reported) = self.store.tick(t, |line| same_view(&kept.view(line)));
+        if told.code != store::DONE {
+            told.never();
+        }
+        let mut expired = Vec::with_capacity(reported);
+        let mut from = 0;
+        for place in 0..reported {
+            let report = self.store.report(place);
+            let out = self.put_out(from, report.records);
+            from += report.records;
+            expired.push(match report.kind {
+                store::ALIGNED => Expired::Aligned(report.conn, out),
+                store::REBUILT => Expired::Rebuild(report.conn, out),
+                _ => Expired::Failed(report.conn),
+            });
+        }
+        self.kept.follow(&self.store);
+        expired
+    }
+
+    /// Records of held messages alone.
+    fn put_out(&mut self, from: usize, count: usize) -> Vec<Applied<M>> {
+        let kept = &mut self.kept;
+        applied(self.store.records(from, count), |number| kept.take(number))
+    }
+}
+
+#[inline]
+fn applied<M>(
+    records: impl Iterator<Item = Record>,
+    mut message: impl FnMut(usize) -> M,
+) -> Vec<Applied<M>> {
+    let one = |record: Record| Applied {
+        conn: record.conn,
+        msg: message(record.message),
+        snapshot: record.snapshot,
+        repeat: record.times,
+    };
+    records.map(one).collect()
+}
+
+impl<M> Default for MarketMerge<M> {
+    /// A market of [`Limits::default`].
+    fn default() -> Self {
+        Self::new(Limits::default()).expect("the default limits are in range")
+    }
+}
+
+impl<M> std::fmt::Debug for MarketMerge<M> {
+    fn fmt(&self, f: &mut std::fmt::Formatter<'_>) -> std::fmt::Result {
+        f.debug_struct("MarketMerge")
+            .field("lines", &self.store.lines())
+            .field("held_messages", &self.kept.len())
+            .finish_non_exhaustive()
+    }
+}
+
+impl<M: Clone> MarketMerge<M> {
+    /// The connection's subscription snapshot of token `index`, 0 or 1.
+    pub fn snapshot(&mut self, conn: ConnId, index: usize, msg: &M, now: Instant) -> Step<M> {
+        let t = self.time(now);
+        let told = self.store.snapshot(conn, index as u64, self.kept.next(), t);
+        self.step(told, conn, msg)
+    }
+
+    /// The connection's next book event. A copy of the message is made only where it is held or applied.
+    #[inline]
+    pub fn book_event(&mut self, conn: ConnId, key: EventKey, msg: &M, now: Instant) -> Step<M> {
+        let t = self.time(now);
+        let told = self.store.book_event(conn, key, self.kept.next(), t);
+        self.step(told, conn, msg)
+    }
+
+    /// Any other message of the connection, such as a print: it is counted, and applied as often as the connection that delivered
+    /// it most often.
+    #[inline]
+    pub fn other(&mut self, conn: ConnId, key: EventKey, msg: &M, now: Instant) -> Step<M> {
+        let t = self.time(now);
+        let told = self.store.print(conn, key, self.kept.next(), t);
+        self.step(told, conn, msg)
+    }
+
+    #[inline]
+    fn step(&mut self, told: Told, conn: ConnId, msg: &M) -> Step<M> {
+        let step = match told.code {
+            store::DUPLICATE => Step::Duplicate,
+            store::APPLY => Step::Apply(self.put_out_with(told.count as usize, msg)),
+            store::HELD => {
+                self.kept.hold(&self.store, conn, msg);
+                return Step::Held;
+            }
+            store::FAILED => Step::Failed,
+            store::IGNORED => return Step::Ignored,
+            store::DIVERGED => return Step::Diverged,
+            store::REFUSED => return Step::Refused(Refusal::of(told.count)),
+            _ => told.never(),
+        };
+        self.kept.follow(&self.store);
+        step
+    }
+
+    /// Records of the call's own message, which has the next number, and of held ones.
+    #[inline]
+    fn put_out_with(&mut self, count: usize, msg: &M) -> Vec<Applied<M>> {
+        let kept = &mut self.kept;
+        let own = kept.next();
+        applied(self.store.records(0, count), |number| {
+            if number == own {
+                msg.clone()
+            } else {
+                kept.take(number)
+            }
+        })
+    }
+}

@@ -1,0 +1,156 @@
+// How often each answer, refusal, record, report and change of a line's kind was seen, and which of 01 were not.
+use crate::reading::{Line, Market};
+use crate::words::{Answer, Call, Limits, MOST};
+use std::collections::BTreeMap;
+
+// Each call's answers and refusals.
+const CALLS: [(&str, &[&str], &[u64]); 13] = [
+    ("setup", &["done"], &[1, 2]),
+    ("subscribe", &["done"], &[1, 4]),
+    ("snapshot", &["apply", "held", "ignored"], &[1, 3, 5, 6, 9, 10]),
+    ("book", &["apply", "duplicate", "held", "ignored", "diverged", "failed"], &[1, 3, 5, 9]),
+    ("print", &["apply", "duplicate", "held", "ignored", "failed"], &[1, 3, 7, 8]),
+    ("drop", &["kept", "gone", "rebuild"], &[1, 3]),
+    ("promote", &["kept", "gone", "rebuild"], &[1, 3]),
+    ("reset", &["done"], &[1]),
+    ("tick", &["done"], &[1, 3, 11]),
+    ("in line", &["yes", "no"], &[1]),
+    ("any in line", &["yes", "no"], &[1]),
+    ("servable", &["yes", "no"], &[1]),
+    ("view", &["messages"], &[1, 3]),
+];
+const RECORDS: [&str; 4] = ["snapshot", "book", "print", "print, times 2 or more"];
+const REPORTS: [&str; 3] = ["aligned", "rebuild", "failed"];
+const LISTS: [&str; 5] = ["L 1", "L 16", "H 1", "H 5000", "from a market made by hand"];
+
+// Of a call, a record, a report, a list or a line's change: its word (for a change the old kind, then the new), and a refusal's number.
+type What = (&'static str, &'static str, &'static str, u64);
+
+#[derive(Default)]
+pub struct Seen(BTreeMap<What, u64>);
+
+// Whether 01 has this answer of the call.
+pub fn named(call: &Call, p: &Answer) -> bool {
+    CALLS.iter().any(|(name, words, numbers)| {
+        *name == call.name() && if p.refused == 0 { words.contains(&p.word) } else { numbers.contains(&p.refused) }
+    })
+}
+
+impl Seen {
+    pub fn new() -> Seen {
+        Seen::default()
+    }
+
+    fn see(&mut self, what: What) {
+        *self.0.entry(what).or_insert(0) += 1;
+    }
+
+    pub fn answer(&mut self, call: &Call, p: &Answer) {
+        self.see((call.name(), p.word, "", p.refused));
+        for r in &p.records {
+            self.see(("record", RECORDS[r.kind as usize], "", 0));
+            if r.times > 1 {
+                self.see(("record", RECORDS[3], "", 0));
+            }
+        }
+        for r in &p.reports {
+            self.see(("report", REPORTS[r.0 as usize], "", 0));
+        }
+    }
+
+    // The answer, and the lines whose kind it changed.
+    pub fn note(&mut self, call: &Call, p: &Answer, before: &Market, after: &Market) {
+        self.answer(call, p);
+        if p.refused != 0 || std::ptr::eq(before, after) || matches!(call, Call::Setup { .. }) {
+            return;
+        }
+        for conn in before.lines.keys().chain(after.lines.keys().filter(|c| !before.lines.contains_key(c))) {
+            let (a, e) = (kind(before.line(*conn)), kind(after.line(*conn)));
+            if a != e {
+                self.see((call.name(), a, e, 0));
+            }
+        }
+    }
+
+    // What a list starts from.
+    pub fn list(&mut self, x: Limits, by_hand: bool) {
+        for (word, yes) in LISTS.into_iter().zip([x.l == 1, x.l == MOST.l, x.h == 1, x.h == MOST.h, by_hand]) {
+            if yes {
+                self.see(("list", word, "", 0));
+            }
+        }
+    }
+
+    fn count(&self, what: What) -> u64 {
+        self.0.get(&what).copied().unwrap_or(0)
+    }
+
+    // Prints the table of what 01 has; what of it was not seen.
+    pub fn table(&self) -> Vec<String> {
+        let mut none = Vec::new();
+        let mut line = |text: String, n: u64| {
+            println!("{n:>12}  {text}");
+            if n == 0 {
+                none.push(text);
+            }
+        };
+        for (name, words, numbers) in CALLS {
+            for word in words {
+                line(format!("{name}: {word}"), self.count((name, word, "", 0)));
+            }
+            for number in numbers {
+                line(format!("{name}: refused {number}"), self.count((name, "refused", "", *number)));
+            }
+        }
+        for number in 1..=11 {
+            let all = self.0.iter().filter(|((_, word, _, n), _)| *word == "refused" && *n == number);
+            line(format!("all calls: refused {number}"), all.map(|(_, n)| n).sum());
+        }
+        for word in RECORDS {
+            line(format!("record: {word}"), self.count(("record", word, "", 0)));
+        }
+        for word in REPORTS {
+            line(format!("report: {word}"), self.count(("report", word, "", 0)));
+        }
+        none
+    }
+
+    // The same of what lists start from.
+    pub fn lists(&self) -> Vec<String> {
+        let counts = LISTS.map(|word| (word, self.count(("list", word, "", 0))));
+        for (word, n) in counts {
+            println!("{n:>12}  list: {word}");
+        }
+        counts.iter().filter(|(_, n)| *n == 0).map(|(word, _)| format!("list: {word}")).collect()
+    }
+
+    // Prints how often a line's kind changed.
+    pub fn changes(&self) {
+        for ((name, a, e, _), n) in self.0.iter().filter(|((_, _, e, _), _)| !e.is_empty()) {
+            println!("{n:>12}  line: {a} to {e}, by {name}");
+        }
+    }
+
+    // What `other` has and this has not.
+    pub fn lacks(&self, other: &Seen) -> usize {
+        other.0.keys().filter(|what| !self.0.contains_key(*what)).count()
+    }
+
+    pub fn add(&mut self, other: Seen) {
+        for (what, n) in other.0 {
+            *self.0.entry(what).or_insert(0) += n;
+        }
+    }
+}
+
+// The name of a line's kind.
+fn kind(line: Option<&Line>) -> &'static str {
+    match line {
+        None => "none",
+        Some(Line::Waiting { .. }) => "Waiting",
+        Some(Line::Pending { snapshot: None, .. }) => "Pending without snapshot",
+        Some(Line::Pending { .. }) => "Pending",
+        Some(Line::InLine { .. }) => "in line",
+        Some(Line::Failed) => "Failed",
+    }
+}
