@@ -76,6 +76,24 @@ typedef struct {
     uint64_t records; /* how many of the tick's records are its */
 } merge_report;
 
+/* A call in the list of merge_batch. A word that the call does not use may be anything. */
+typedef struct {
+    uint64_t number; /* 1 subscribe, 2 snapshot, 3 book event, 4 print, 5 drop, 6 promote, 7 reset, 8 tick */
+    uint64_t conn;
+    uint64_t token;
+    uint64_t key[2];
+    uint64_t message;
+    uint64_t time;
+    uint64_t views; /* of a tick: the view answers as binary digits, the lowest for the first line */
+} merge_call;
+
+/* An answer of merge_batch. */
+typedef struct {
+    uint64_t code;
+    uint64_t count; /* the number of a refusal, or how many records it put out */
+    uint64_t reports;
+} merge_answer;
+
 /* Makes an empty store, whatever the words were. Book events are numbered from start. Times of later calls are in milliseconds. */
 uint64_t merge_setup(uint64_t *store, size_t words, uint64_t lines, uint64_t held, uint64_t events, uint64_t keys,
                      uint64_t pairs, uint64_t start, uint64_t *count);
@@ -108,6 +126,13 @@ uint64_t merge_reset(uint64_t *store, size_t words, uint64_t time, uint64_t *cou
 /* Upkeep. One view answer for each line, by rising connection; *count: all records, *reported: the reports. */
 uint64_t merge_tick(uint64_t *store, size_t words, uint64_t *out, size_t room, uint64_t *reports, size_t report_room,
                     const uint64_t *answers, size_t answered, uint64_t time, uint64_t *count, uint64_t *reported);
+
+/* Calls one after the other, on a store that is tested once: the words of merge_call in `calls`, those of merge_answer into `answers`,
+ * the records and reports one behind the other. Ends before a call for which a list has no room left. MERGE_DONE, with how many
+ * calls were done, how many records and reports they put out; or MERGE_REFUSED, with the number in *done. */
+uint64_t merge_batch(uint64_t *store, size_t words, uint64_t *out, size_t room, uint64_t *reports, size_t report_room,
+                     uint64_t *answers, size_t answer_room, const uint64_t *calls, size_t call_words, uint64_t *done,
+                     uint64_t *count, uint64_t *reported);
 
 /* Queries. */
 uint64_t merge_in_line(const uint64_t *store, size_t words, uint64_t conn, uint64_t *count);

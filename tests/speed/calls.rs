@@ -38,6 +38,11 @@ pub const REBUILD: u64 = 10 << 32;
 pub trait Side {
     fn new(limits: Limits) -> Self;
     fn call(&mut self, call: &Timed) -> u64;
+    // Calls one after the other; the sum of their answers.
+    #[inline]
+    fn calls(&mut self, calls: &[Timed]) -> u64 {
+        calls.iter().fold(0, |sum, call| sum.wrapping_add(self.call(call)))
+    }
     // A call that is not measured.
     fn prepare(&mut self, call: &Timed) -> u64 {
         self.call(call)

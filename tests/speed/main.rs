@@ -1,5 +1,6 @@
 // speed [LOAD...]: the tables. speed one LOAD SIDE: one load on one side, once, for the counting of instructions.
 // Built with `--cfg memory` it counts allocated bytes, and `speed memory` is the table of memory.
+mod batch;
 mod calls;
 mod drop_in;
 mod feed;
@@ -27,7 +28,7 @@ use calls::{Side, Timed};
 use loads::Load;
 use std::time::{Duration, Instant};
 
-pub const SIDES: [&str; 4] = ["shipped", "ordered", "single", "drop-in"];
+pub const SIDES: [&str; 5] = ["shipped", "ordered", "single", "many", "drop-in"];
 
 // What a load on a side did: measured calls, their time, and the sum of their answers.
 pub struct Ran {
@@ -39,7 +40,7 @@ pub struct Ran {
 // The name is how the counting of instructions finds what to count.
 #[inline(never)]
 fn measured<S: Side>(side: &mut S, calls: &[Timed]) -> u64 {
-    calls.iter().fold(0, |sum, call| sum.wrapping_add(side.call(call)))
+    side.calls(calls)
 }
 
 fn run_on<S: Side>(load: &Load, most: usize) -> Ran {
@@ -67,6 +68,7 @@ pub fn run_most(load: &Load, side: &str, most: usize) -> Ran {
         "shipped" => run_on::<original::hashed::Hashed>(load, most),
         "ordered" => run_on::<original::ordered::Ordered>(load, most),
         "single" => run_on::<single::Single>(load, most),
+        "many" => run_on::<batch::Batch>(load, most),
         "drop-in" => run_on::<drop_in::DropIn>(load, most),
         _ => panic!("no side {side}"),
     }

@@ -53,9 +53,9 @@ extern "C" {
 const VIEWS: [u64; 16] = [0; 16];
 
 pub struct Single {
-    words: Vec<u64>,
-    out: Vec<u64>,
-    reports: Vec<u64>,
+    pub words: Vec<u64>,
+    pub out: Vec<u64>,
+    pub reports: Vec<u64>,
 }
 
 impl Single {
@@ -79,7 +79,7 @@ impl Single {
                 Call::Subscribe => (by.subscribe)(s, n, c.conn, c.t, &mut count),
             }
         };
-        self.told(code, count as usize, reported as usize)
+        answered(code, count) + self.put_out(count as usize, reported as usize)
     }
 
     // Bytes of the store that say something, and of the whole store.
@@ -97,18 +97,17 @@ impl Single {
         (8 * used, 8 * self.words.len())
     }
 
+    // What so many records and reports add to the sum.
     #[inline]
-    fn told(&self, code: u64, count: usize, reported: usize) -> u64 {
-        assert!(code != 0, "a load is refused: {count}");
+    pub fn put_out(&self, count: usize, reported: usize) -> u64 {
         let put: u64 = self.out[..7 * count].chunks_exact(7).map(|r| r[5] * r[6]).sum();
         let reports = self.reports[..3 * reported].chunks_exact(3);
         let failed: u64 = reports.filter(|r| r[0] == 2).map(|r| r[1]).sum();
-        if code == 1 { put + failed } else { (code << 32) + put }
+        put + failed
     }
-}
 
-impl Side for Single {
-    fn new(x: Limits) -> Self {
+    // A market whose lists take so many records and reports beside those of one call.
+    pub fn with_room(x: Limits, more: u64) -> Self {
         let words = 64 + x.lines * (7 * x.held + 64) + 3 * x.events + 4 * x.keys + 4 * x.pairs;
         let mut words = vec![0; words as usize];
         let mut count = 0;
@@ -117,8 +116,22 @@ impl Side for Single {
             merge_setup(words.as_mut_ptr(), words.len(), x.lines, x.held, x.events, x.keys, x.pairs, 0, &mut count)
         };
         assert_eq!(code, calls::DONE);
-        let records = x.lines * (2 * x.held + 8) + 1;
-        Single { words, out: vec![0; 7 * records as usize], reports: vec![0; 3 * x.lines as usize] }
+        let records = x.lines * (2 * x.held + 8) + 1 + more;
+        let reports = x.lines + more;
+        Single { words, out: vec![0; 7 * records as usize], reports: vec![0; 3 * reports as usize] }
+    }
+}
+
+// What an answer's code adds to the sum.
+#[inline]
+pub fn answered(code: u64, count: u64) -> u64 {
+    assert!(code != 0, "a load is refused: {count}");
+    if code == calls::DONE { 0 } else { code << 32 }
+}
+
+impl Side for Single {
+    fn new(x: Limits) -> Self {
+        Single::with_room(x, 0)
     }
 
     #[inline]

@@ -1,30 +1,30 @@
 // Reads calls from standard input, 44 bytes each, makes them on one market, and writes what they answer.
+use batch::Batched;
 use libc::STDIN_FILENO;
 use libc::STDOUT_FILENO;
-use listing::Call;
-use listing::Record;
-use listing::reading::read;
 use listing::writing::put_bad;
 use listing::writing::put_changed;
-use listing::writing::put_lost;
-use listing::writing::put_step;
 use listing::writing::put_ticked;
+use reading::Next;
+use rules::Changed;
 use rules::Limits;
 use rules::Ticked;
 ghost use mathlib.Core.Path.{_≡_};
 ghost use mathlib.Core.Bool.{true};
-ghost use Prim.Native.Nat.{_+_, _≤_, _<_, _^_};
+ghost use Prim.Native.Nat.{_+_, _*_, _/_, _≤_, _<_, _^_};
 ghost use lib.ListN.{length};
+
+mod answers;
+mod reading;
 
 // More blocks of input than any run has: a proved loop has to end.
 const BLOCKS: u64 = 1_099_511_627_776;
 // How many records a block has.
 const BLOCK: u64 = 1489;
-// The text of a call takes fewer bytes than this.
-const ROOM: usize = 40_000;
 
-// How much text waits to be written, and whether to go on.
-struct Text {
+// How many records were taken, how much text waits to be written, and whether to go on.
+struct Taken {
+    records: usize,
     n: usize,
     on: bool,
 }
@@ -50,71 +50,108 @@ fn tick(s: &mut [u64], out: &mut [u64], reports: &mut [u64], answer: u64, time: 
     calls::tick(s, out, reports, &answers[..lines], time)
 }
 
-// Makes a call; its text is written from place n on.
-fn answer(
+// One record was taken, and its text ends here.
+fn one(text: &[u8], n: usize) -> Taken
+    requires { ⌜ (n ≤ length (now text)) × (80000 ≤ length (now text)) ⌝ }
+    ensures { λ r. ⌜ (r .n + 80000 ≤ length (now (text .entry))) × (r .records ≡ 1) ⌝ }
+{
+    let k = answers::with_room(text, n);
+    Taken {
+        records: 1,
+        n: k.n,
+        on: k.on,
+    }
+}
+
+// The first call of a list was refused, and no other was made.
+fn refused(text: &mut [u8], n: usize, number: u64) -> Taken
+    requires { ⌜ n + 80000 ≤ length (now text) ⌝ }
+    ensures { λ r. ⌜ (r .n + 80000 ≤ length (now (text .exit))) × (r .records ≡ 1) ⌝ }
+{
+    let m = put_changed(text, n, Changed::Refused(number));
+    one(text, m)
+}
+
+fn at_most(a: usize, b: usize) -> usize
+    ensures { λ r. ⌜ (r ≤ b) × (r ≤ a) ⌝ }
+    ensures { λ r. ⌜ ((1 ≤ a) → ((1 ≤ b) → (1 ≤ r))) ⌝ }
+{
+    if a < b {
+        return a;
+    }
+    b
+}
+
+// The calls of a list, as far as there is room for their records.
+fn list(
     s: &mut [u64],
     out: &mut [u64],
     reports: &mut [u64],
     text: &mut [u8],
     n: usize,
-    call: Call,
-) -> usize
-    requires { ⌜ (10 ≤ length (now s)) × ((length (now out) ≤ 2023) × (length (now reports) ≤ 12)) ⌝ }
-    requires { ⌜ n + 40000 ≤ length (now text) ⌝ }
-    ensures { λ r. ⌜ r ≤ length (now (text .exit)) ⌝ }
+    rows: &[u64],
+) -> Taken
+    requires { ⌜ (length (now out) ≤ 4046) × (length (now reports) ≤ 24) ⌝ }
+    requires { ⌜ (n + 80000 ≤ length (now text)) × ((8 ≤ length (now rows)) × (length (now rows) ≤ 256)) ⌝ }
+    ensures { λ r. ⌜ (r .n ≤ length (now (text .exit))) × (r .on ≡ true → r .n + 80000 ≤ length (now (text .exit))) ⌝ }
+    ensures { λ r. ⌜ (1 ≤ r .records) × (r .records ≤ 32) ⌝ }
 {
-    match call {
-        Call::Subscribe(conn, time) => {
-            let changed = calls::subscribe(s, conn, time);
-            put_changed(text, n, changed)
+    let mut answers = [0u64; 96];
+    let did = batch::batch(s, out, reports, &mut answers, rows);
+    match did {
+        Batched::Did { calls, .. } => {
+            if calls == 0 {
+                return refused(text, n, 3);
+            }
+            let made = at_most(calls, rows.len() / 8);
+            let end = 3 * made;
+            let k = answers::put_answers(text, n, &answers[..end], out, reports);
+            Taken {
+                records: made,
+                n: k.n,
+                on: k.on,
+            }
         }
-        Call::Snapshot(conn, token, message, time) => {
-            let step = calls::snapshot(s, out, conn, token, message, time);
-            put_step(text, n, step, out)
-        }
-        Call::Book(conn, key, message, time) => {
-            let step = calls::book_event(s, out, conn, key, message, time);
-            put_step(text, n, step, out)
-        }
-        Call::Print(conn, key, message, time) => {
-            let step = calls::other(s, out, conn, key, message, time);
-            put_step(text, n, step, out)
-        }
-        Call::Drop(conn, time) => {
-            let lost = calls::drop_conn(s, out, conn, time);
-            put_lost(text, n, lost, out)
-        }
-        Call::Promote(time) => {
-            let lost = calls::promote(s, out, time);
-            put_lost(text, n, lost, out)
-        }
-        Call::Reset(time) => {
-            let changed = calls::reset(s, time);
-            put_changed(text, n, changed)
-        }
-        Call::Tick(answer, time) => {
+        Batched::Refused(number) => refused(text, n, number),
+    }
+}
+
+// The record at the front of the bytes, which has this number and is not for a list.
+fn alone(
+    s: &mut [u64],
+    out: &mut [u64],
+    reports: &mut [u64],
+    text: &mut [u8],
+    n: usize,
+    next: Next,
+    number: u64,
+) -> Taken
+    requires { ⌜ (10 ≤ length (now s)) × ((length (now out) ≤ 4046) × (length (now reports) ≤ 24)) ⌝ }
+    requires { ⌜ n + 80000 ≤ length (now text) ⌝ }
+    ensures { λ r. ⌜ (r .n ≤ length (now (text .exit))) × (r .on ≡ true → r .n + 80000 ≤ length (now (text .exit))) ⌝ }
+    ensures { λ r. ⌜ (1 ≤ r .records) × (r .records ≤ 32) ⌝ }
+{
+    match next {
+        Next::Tick(answer, time) => {
             let ticked = tick(s, out, reports, answer, time);
-            put_ticked(text, n, ticked, reports, out)
+            let m = put_ticked(text, n, ticked, reports, out);
+            one(text, m)
         }
+        Next::Bad => Taken {
+            records: 1,
+            n: put_bad(text, n, number),
+            on: false,
+        },
+        Next::More => Taken {
+            records: 1,
+            n,
+            on: false,
+        },
     }
 }
 
-// Writes the text where it leaves no room for another call's.
-fn with_room(text: &[u8], n: usize) -> Text
-    requires { ⌜ (n ≤ length (now text)) × (40000 ≤ length (now text)) ⌝ }
-    ensures { λ r. ⌜ r .n + 40000 ≤ length (now (text .entry)) ⌝ }
-{
-    if ROOM <= text.len() - n {
-        return Text { n, on: true };
-    }
-    Text {
-        n: 0,
-        on: io::write_all(STDOUT_FILENO, &text[..n]),
-    }
-}
-
-// The call of the record at the front of the bytes, which has this number.
-fn one_record(
+// The records at the front of the bytes, the first of which has this number: as many as make a list, or one.
+fn some(
     s: &mut [u64],
     out: &mut [u64],
     reports: &mut [u64],
@@ -122,22 +159,20 @@ fn one_record(
     n: usize,
     bytes: &[u8],
     number: u64,
-) -> Text
-    requires { ⌜ (10 ≤ length (now s)) × ((length (now out) ≤ 2023) × (length (now reports) ≤ 12)) ⌝ }
-    requires { ⌜ n + 40000 ≤ length (now text) ⌝ }
-    ensures { λ r. ⌜ (r .n ≤ length (now (text .exit))) × (r .on ≡ true → r .n + 40000 ≤ length (now (text .exit))) ⌝ }
+) -> Taken
+    requires { ⌜ (10 ≤ length (now s)) × ((length (now out) ≤ 4046) × (length (now reports) ≤ 24)) ⌝ }
+    requires { ⌜ n + 80000 ≤ length (now text) ⌝ }
+    ensures { λ r. ⌜ (r .n ≤ length (now (text .exit))) × (r .on ≡ true → r .n + 80000 ≤ length (now (text .exit))) ⌝ }
+    ensures { λ r. ⌜ (1 ≤ r .records) × (r .records ≤ 32) ⌝ }
 {
-    let record = read(bytes);
-    match record {
-        Record::Of(call) => {
-            let m = answer(s, out, reports, text, n, call);
-            with_room(text, m)
-        }
-        Record::Bad(_) => Text {
-            n: put_bad(text, n, number),
-            on: false,
-        },
+    let mut rows = [0u64; 256];
+    let g = reading::gather(&mut rows, bytes);
+    if 0 < g.rows {
+        let end = 8 * g.rows;
+        return list(s, out, reports, text, n, &rows[..end]);
     }
+    let next = g.next;
+    alone(s, out, reports, text, n, next, number)
 }
 
 // The calls of a block of records, the first of which has this number; whether to read on.
@@ -149,21 +184,21 @@ fn records(
     input: &[u8],
     first: u64,
 ) -> bool
-    requires { ⌜ (10 ≤ length (now s)) × ((length (now out) ≤ 2023) × (length (now reports) ≤ 12)) ⌝ }
-    requires { ⌜ (40000 ≤ length (now text)) × ((length (now input) ≤ 65516) × (first < 2 ^ 60)) ⌝ }
+    requires { ⌜ (10 ≤ length (now s)) × ((length (now out) ≤ 4046) × (length (now reports) ≤ 24)) ⌝ }
+    requires { ⌜ (80000 ≤ length (now text)) × ((length (now input) ≤ 65516) × (first < 2 ^ 60)) ⌝ }
 {
     let mut number = first;
     let mut at = 0;
     let mut n = 0;
     while at < input.len() {
-        let k = one_record(s, out, reports, text, n, &input[at..], number);
+        let k = some(s, out, reports, text, n, &input[at..], number);
         n = k.n;
         if !k.on {
             io::write_all(STDOUT_FILENO, &text[..n]);
             return false;
         }
-        number += 1;
-        at += 44;
+        number += k.records as u64;
+        at += 44 * k.records;
     }
     io::write_all(STDOUT_FILENO, &text[..n])
 }
@@ -177,8 +212,8 @@ fn block(
     input: &mut [u8],
     blocks: u64,
 ) -> bool
-    requires { ⌜ (10 ≤ length (now s)) × ((length (now out) ≤ 2023) × (length (now reports) ≤ 12)) ⌝ }
-    requires { ⌜ (40000 ≤ length (now text)) × ((length (now input) ≤ 65516) × (blocks < 2 ^ 40)) ⌝ }
+    requires { ⌜ (10 ≤ length (now s)) × ((length (now out) ≤ 4046) × (length (now reports) ≤ 24)) ⌝ }
+    requires { ⌜ (80000 ≤ length (now text)) × ((length (now input) ≤ 65516) × (blocks < 2 ^ 40)) ⌝ }
 {
     let got = io::read_full(STDIN_FILENO, input);
     let on = records(s, out, reports, text, &input[..got], blocks * BLOCK + 1);
@@ -189,8 +224,8 @@ fn block(
 }
 
 fn run(s: &mut [u64], out: &mut [u64], reports: &mut [u64], text: &mut [u8], input: &mut [u8])
-    requires { ⌜ (10 ≤ length (now s)) × ((length (now out) ≤ 2023) × (length (now reports) ≤ 12)) ⌝ }
-    requires { ⌜ (40000 ≤ length (now text)) × (length (now input) ≤ 65516) ⌝ }
+    requires { ⌜ (10 ≤ length (now s)) × ((length (now out) ≤ 4046) × (length (now reports) ≤ 24)) ⌝ }
+    requires { ⌜ (80000 ≤ length (now text)) × (length (now input) ≤ 65516) ⌝ }
 {
     let mut blocks = 0;
     while blocks < BLOCKS {
@@ -204,8 +239,8 @@ fn run(s: &mut [u64], out: &mut [u64], reports: &mut [u64], text: &mut [u8], inp
 
 fn main() {
     let mut s = [0u64; 2240];
-    let mut out = [0u64; 2023];
-    let mut reports = [0u64; 12];
+    let mut out = [0u64; 4046];
+    let mut reports = [0u64; 24];
     let mut text = [0u8; 131072];
     let mut input = [0u8; 65516];
     let limits = Limits {

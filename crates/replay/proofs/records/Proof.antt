@@ -1,4 +1,4 @@
-use mathlib.Core.Path.{_≡_, sym}
+use mathlib.Core.Path.{_≡_, sym, _∙_}
 use Prim.Native.Nat.{_+_, _-_, _≤_}
 use native.Mathlib.Omega.{arith}
 use lib.ListN.{length}
@@ -12,88 +12,30 @@ abbrev Inv-loop : tie.InvT-loop
 Inv-loop s₀ out₀ reports₀ text₀ input first number₀ at₀ n₀ s out reports text number at n =
     (length s ≡ length s₀)
     × ((length out ≡ length out₀)
-    × ((length reports ≡ length reports₀) × ((length text ≡ length text₀) × ((n + 40000 ≤ length text) × (number ≤ first + at)))))
+    × ((length reports ≡ length reports₀) × ((length text ≡ length text₀) × ((n + 80000 ≤ length text) × (number ≤ first + at)))))
 
 abbrev μ-loop : tie.MeasureT-loop
 μ-loop s₀ out₀ reports₀ text₀ input first number₀ at₀ n₀ s out reports text number at n = length input - at
 
-loop-holds : tie.Need-loop-holds Inv-loop μ-loop
-loop-holds c = search needs
-
-sub-one-record : tie.Need-sub-one-record Inv-loop μ-loop
-sub-one-record c = search needs
-
-part-one-record-start : tie.Need-part-one-record-start Inv-loop μ-loop
-part-one-record-start c = search needs
-
-part-one-record-end : tie.Need-part-one-record-end Inv-loop μ-loop
-part-one-record-end c = search needs
-
-one-record-requires : tie.Need-one-record-requires Inv-loop μ-loop
-one-record-requires c κs = search needs
-
-slice-reshare-prefix-write-all : tie.Need-slice-reshare-prefix-write-all Inv-loop μ-loop
-slice-reshare-prefix-write-all c = search needs
-
-slice-aggregate-write-all : tie.Need-slice-aggregate-write-all Inv-loop μ-loop
-slice-aggregate-write-all c = sym (length-take-le _ _ (omega arith))
-
-write-all-requires : tie.Need-write-all-requires Inv-loop μ-loop
-write-all-requires c κs = search needs
-
-same-length : tie.Need-same-length Inv-loop μ-loop
-same-length c = search needs
-
-same-length-2 : tie.Need-same-length-2 Inv-loop μ-loop
-same-length-2 c = search needs
-
-same-length-3 : tie.Need-same-length-3 Inv-loop μ-loop
-same-length-3 c = search needs
-
-same-length-4 : tie.Need-same-length-4 Inv-loop μ-loop
-same-length-4 c = search needs
-
-returns : tie.Need-returns Inv-loop μ-loop
-returns c = search needs
+some-requires : tie.Need-some-requires Inv-loop μ-loop
+some-requires c κs = let l = c .before .before .before .before .before .before .loop .inv in let p = c .before .before .before .before .before .before .before .before .before .before .before .before .pre .0 in ((omega (arith, l .0, p .0), (omega (arith, l .1 .0, p .1 .0), omega (arith, l .1 .1 .0, p .1 .1))), l .1 .1 .1 .1 .0)
 
 add-number : tie.Need-add-number Inv-loop μ-loop
-add-number c = search needs
-
-add-at : tie.Need-add-at Inv-loop μ-loop
-add-at c = search needs
-
-loop-less : tie.Need-loop-less Inv-loop μ-loop
-loop-less c = search needs
+add-number c = omega (arith, c .before .before .before .before .before .before .before .before .before .before .some .ensures .1 .1, c .before .before .before .before .before .before .before .before .before .before .before .before .before .before .before .before .loop-test .taken, c .before .before .before .before .before .before .before .before .before .before .before .before .before .before .before .before .before .loop .inv .1 .1 .1 .1 .1, c .before .before .before .before .before .before .before .before .before .before .before .before .before .before .before .before .before .before .before .before .before .before .before .pre .1 .1 .0, c .before .before .before .before .before .before .before .before .before .before .before .before .before .before .before .before .before .before .before .before .before .before .before .pre .1 .1 .1)
 
 loop-again : tie.Need-loop-again Inv-loop μ-loop
 loop-again c =
-    let r = c .before .before .before .before .before .before .before .before .before .before .one-record in
-    let room = r .ensures .1 (not-false _ (c .if1 .left)) in
-    search needs
-
-slice-reshare-prefix-write-all-2 : tie.Need-slice-reshare-prefix-write-all-2 Inv-loop μ-loop
-slice-reshare-prefix-write-all-2 c = search needs
-
-slice-aggregate-write-all-2 : tie.Need-slice-aggregate-write-all-2 Inv-loop μ-loop
-slice-aggregate-write-all-2 c = sym (length-take-le _ _ (omega arith))
-
-write-all-requires-2 : tie.Need-write-all-requires-2 Inv-loop μ-loop
-write-all-requires-2 c κs = search needs
-
-same-length-5 : tie.Need-same-length-5 Inv-loop μ-loop
-same-length-5 c = search needs
-
-same-length-6 : tie.Need-same-length-6 Inv-loop μ-loop
-same-length-6 c = search needs
-
-same-length-7 : tie.Need-same-length-7 Inv-loop μ-loop
-same-length-7 c = search needs
-
-same-length-8 : tie.Need-same-length-8 Inv-loop μ-loop
-same-length-8 c = search needs
-
-returns-2 : tie.Need-returns-2 Inv-loop μ-loop
-returns-2 c = search needs
+    let r = c .before .before .before .before .before .before .before .before .before .before .before .some in
+    let l = c .before .before .before .before .before .before .before .before .before .before .before .before .before .before .before .before .before .before .loop .inv in (
+      r .kept .0 ∙ l .0,
+      (
+        r .kept .1 .0 ∙ l .1 .0,
+        (
+          r .kept .1 .1 .0 ∙ l .1 .1 .0,
+          (r .kept .1 .1 .1 .0 ∙ l .1 .1 .1 .0, (r .ensures .0 .1 (not-false _ (c .before .if1 .left)), omega (arith, l .1 .1 .1 .1 .1))),
+        ),
+      ),
+    )
 
 pub records-spec : {M : Type 1} → statement M
 records-spec =
@@ -101,28 +43,29 @@ records-spec =
     (tie.spec
     Inv-loop
     μ-loop
-    loop-holds
-    sub-one-record
-    part-one-record-start
-    part-one-record-end
-    one-record-requires
-    slice-reshare-prefix-write-all
-    slice-aggregate-write-all
-    write-all-requires
-    same-length
-    same-length-2
-    same-length-3
-    same-length-4
-    returns
+    (λ c. search needs)
+    (λ c. omega arith)
+    (λ c. omega arith)
+    (λ c. omega arith)
+    some-requires
+    (λ c. omega (arith, c .before .before .before .before .before .before .before .before .before .before .some .ensures .0 .0))
+    (λ c. sym (length-take-le _ _ (omega (arith, c .before .before .before .before .before .before .before .before .before .before .before .some .ensures .0 .0))))
+    (λ c κs. search needs)
+    (λ c. c .before .before .before .before .before .before .before .before .before .before .before .before .some .kept .0 ∙ c .before .before .before .before .before .before .before .before .before .before .before .before .before .before .before .before .before .before .before .loop .inv .0)
+    (λ c. c .before .before .before .before .before .before .before .before .before .before .before .before .some .kept .1 .0 ∙ c .before .before .before .before .before .before .before .before .before .before .before .before .before .before .before .before .before .before .before .loop .inv .1 .0)
+    (λ c. c .before .before .before .before .before .before .before .before .before .before .before .before .some .kept .1 .1 .0 ∙ c .before .before .before .before .before .before .before .before .before .before .before .before .before .before .before .before .before .before .before .loop .inv .1 .1 .0)
+    (λ c. c .before .before .before .before .before .before .before .before .before .before .before .before .some .kept .1 .1 .1 .0 ∙ c .before .before .before .before .before .before .before .before .before .before .before .before .before .before .before .before .before .before .before .loop .inv .1 .1 .1 .0)
+    (λ c. search needs)
     add-number
-    add-at
-    loop-less
+    (λ c. omega (arith, c .before .before .before .before .before .before .before .before .before .before .before .some .ensures .1 .1))
+    (λ c. omega (arith, c .before .before .before .before .before .before .before .before .before .before .before .some .ensures .1 .1, c .before .before .before .before .before .before .before .before .before .before .before .before .before .before .before .before .before .loop-test .taken, c .before .before .before .before .before .before .before .before .before .before .before .before .before .before .before .before .before .before .before .before .before .before .before .before .pre .1 .1 .0))
+    (λ c. let r = c .before .before .before .before .before .before .before .before .before .before .before .some .ensures .1 .0 in omega arith)
     loop-again
-    slice-reshare-prefix-write-all-2
-    slice-aggregate-write-all-2
-    write-all-requires-2
-    same-length-5
-    same-length-6
-    same-length-7
-    same-length-8
-    returns-2)
+    (λ c. omega arith)
+    (λ c. sym (length-take-le _ _ (omega arith)))
+    (λ c κs. search needs)
+    (λ c. c .before .before .before .loop .inv .0)
+    (λ c. c .before .before .before .loop .inv .1 .0)
+    (λ c. c .before .before .before .loop .inv .1 .1 .0)
+    (λ c. c .before .before .before .loop .inv .1 .1 .1 .0)
+    (λ c. search needs))

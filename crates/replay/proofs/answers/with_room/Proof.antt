@@ -2,8 +2,8 @@ use mathlib.Core.Path.{sym}
 use native.Mathlib.Omega.{arith}
 use lib.Seq.{length-take-le}
 use borrow.Author.Needs.{needs}
-use Rattle.replay.proofs.with_room.Statement.{statement}
-use Rattle.replay.proofs.with_room.Tie as tie
+use Rattle.replay.proofs.answers.with_room.Statement.{statement}
+use Rattle.replay.proofs.answers.with_room.Tie as tie
 
 sub-if1 : tie.Need-sub-if1
 sub-if1 c = search needs
