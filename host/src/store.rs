@@ -86,124 +86,70 @@ impl Store {
         })
     }
 
-    pub fn subscribe(&mut self, conn: u64, t: u64) -> Told {
+    /// Makes a call on the words and the output list, each a pointer and a length, with a place for its count. The words are a sound
+    /// store (see `Store`); words, output list and count are apart.
+    #[inline]
+    fn told(
+        &mut self,
+        call: impl FnOnce(*mut u64, usize, *mut u64, usize, &mut u64) -> u64,
+    ) -> Told {
         let mut count = 0;
-        // SAFETY: `words` is a sound store (see `Store`); `words` and `count` are apart.
-        let code = unsafe {
-            ffi::owned_subscribe(
-                self.words.as_mut_ptr(),
-                self.words.len(),
-                conn,
-                t,
-                &mut count,
-            )
-        };
+        let (words, out) = (&mut self.words, &mut self.out);
+        let code = call(
+            words.as_mut_ptr(),
+            words.len(),
+            out.as_mut_ptr(),
+            out.len(),
+            &mut count,
+        );
         Told { code, count }
+    }
+
+    pub fn subscribe(&mut self, conn: u64, t: u64) -> Told {
+        // SAFETY: `told` lends a sound store and a count apart from it.
+        self.told(|s, n, _, _, count| unsafe { ffi::owned_subscribe(s, n, conn, t, count) })
     }
 
     #[inline]
     pub fn snapshot(&mut self, conn: u64, token: u64, message: usize, t: u64) -> Told {
-        let mut count = 0;
-        // SAFETY: `words` is a sound store (see `Store`); `words`, `out` and `count` are apart.
-        let code = unsafe {
-            ffi::owned_snapshot(
-                self.words.as_mut_ptr(),
-                self.words.len(),
-                self.out.as_mut_ptr(),
-                self.out.len(),
-                conn,
-                token,
-                message as u64,
-                t,
-                &mut count,
-            )
-        };
-        Told { code, count }
+        let message = message as u64;
+        // SAFETY: `told` lends a sound store, an output list and a count, all apart.
+        self.told(|s, n, out, m, count| unsafe {
+            ffi::owned_snapshot(s, n, out, m, conn, token, message, t, count)
+        })
     }
 
     #[inline]
     pub fn book_event(&mut self, conn: u64, key: EventKey, message: usize, t: u64) -> Told {
-        let mut count = 0;
-        let (key0, key1) = key.words();
-        // SAFETY: `words` is a sound store (see `Store`); `words`, `out` and `count` are apart.
-        let code = unsafe {
-            ffi::owned_book_event(
-                self.words.as_mut_ptr(),
-                self.words.len(),
-                self.out.as_mut_ptr(),
-                self.out.len(),
-                conn,
-                key0,
-                key1,
-                message as u64,
-                t,
-                &mut count,
-            )
-        };
-        Told { code, count }
+        let ((k0, k1), message) = (key.words(), message as u64);
+        // SAFETY: `told` lends a sound store, an output list and a count, all apart.
+        self.told(|s, n, out, m, count| unsafe {
+            ffi::owned_book_event(s, n, out, m, conn, k0, k1, message, t, count)
+        })
     }
 
     #[inline]
     pub fn print(&mut self, conn: u64, key: EventKey, message: usize, t: u64) -> Told {
-        let mut count = 0;
-        let (key0, key1) = key.words();
-        // SAFETY: `words` is a sound store (see `Store`); `words`, `out` and `count` are apart.
-        let code = unsafe {
-            ffi::owned_print(
-                self.words.as_mut_ptr(),
-                self.words.len(),
-                self.out.as_mut_ptr(),
-                self.out.len(),
-                conn,
-                key0,
-                key1,
-                message as u64,
-                t,
-                &mut count,
-            )
-        };
-        Told { code, count }
+        let ((k0, k1), message) = (key.words(), message as u64);
+        // SAFETY: `told` lends a sound store, an output list and a count, all apart.
+        self.told(|s, n, out, m, count| unsafe {
+            ffi::owned_print(s, n, out, m, conn, k0, k1, message, t, count)
+        })
     }
 
     pub fn drop_conn(&mut self, conn: u64, t: u64) -> Told {
-        let mut count = 0;
-        // SAFETY: `words` is a sound store (see `Store`); `words`, `out` and `count` are apart.
-        let code = unsafe {
-            ffi::owned_drop(
-                self.words.as_mut_ptr(),
-                self.words.len(),
-                self.out.as_mut_ptr(),
-                self.out.len(),
-                conn,
-                t,
-                &mut count,
-            )
-        };
-        Told { code, count }
+        // SAFETY: `told` lends a sound store, an output list and a count, all apart.
+        self.told(|s, n, out, m, count| unsafe { ffi::owned_drop(s, n, out, m, conn, t, count) })
     }
 
     pub fn promote(&mut self, t: u64) -> Told {
-        let mut count = 0;
-        // SAFETY: `words` is a sound store (see `Store`); `words`, `out` and `count` are apart.
-        let code = unsafe {
-            ffi::owned_promote(
-                self.words.as_mut_ptr(),
-                self.words.len(),
-                self.out.as_mut_ptr(),
-                self.out.len(),
-                t,
-                &mut count,
-            )
-        };
-        Told { code, count }
+        // SAFETY: `told` lends a sound store, an output list and a count, all apart.
+        self.told(|s, n, out, m, count| unsafe { ffi::owned_promote(s, n, out, m, t, count) })
     }
 
     pub fn reset(&mut self, t: u64) -> Told {
-        let mut count = 0;
-        // SAFETY: `words` is a sound store (see `Store`); `words` and `count` are apart.
-        let code =
-            unsafe { ffi::owned_reset(self.words.as_mut_ptr(), self.words.len(), t, &mut count) };
-        Told { code, count }
+        // SAFETY: `told` lends a sound store and a count apart from it.
+        self.told(|s, n, _, _, count| unsafe { ffi::owned_reset(s, n, t, count) })
     }
 
     /// A tick with one view answer for each line, by rising connection. Gives the count of reports too.
