@@ -20,7 +20,7 @@ use Rattle.rules.specs.Calls.{Outcome, refused, did}
 use Rattle.rules.specs.Refusals.{Call, Subscribe, Snapshot, BookEvent, Print, Drop, Promote, Reset, Tick}
 use Rattle.rules.specs.Answers.{Said, number, word, ofStep, ofLost, ofChanged}
 use Rattle.store.specs.Store.{marketOf, lineCount}
-use Rattle.store.proofs.ConnLaws.{lines-count}
+use Rattle.store.proofs.MarketLaws.{lines-count}
 use Rattle.output.specs.Output.{recordsWords, reportsWords, over}
 use Rattle.market.specs.Lent.{Lent, lent, alone, Answers}
 use Rattle.market_tick.specs.Turns.{lentAll}
@@ -181,11 +181,11 @@ module _ (w s s₁ : List ℕ) (r : Changed) (v q : List ℕ) where
   resets e d = by-changed _ (call-7 w (marketOf s) (records v) (reportRoom q) e) d
 
 -- the view answers are as many digits as there are lines
-pub ticks : (w : List ℕ) (l : Lent) (a : Said) (l₁ : Lent) (views : List ℕ) → getD w 0 0 ≡ 8 → views ≡ bits (lineCount (l .store)) (getD w 7 0)
+pub ticks : (w : List ℕ) (l : Lent) (a : Said) (l₁ : Lent) (views : List ℕ) (n : ℕ) → n ≡ lineCount (l .store) → getD w 0 0 ≡ 8 → views ≡ bits n (getD w 7 0)
     → Steps (Tick views (getD w 6 0) (records (l .out)) (reportRoom (l .reports))) l a l₁ → Calls w l a l₁
-ticks w l a l₁ views e b d =
+ticks w l a l₁ views n k e b d =
     let m = marketOf (l .store) in
-    let c : bits (length (m .lines)) (getD w 7 0) ≡ views = ap (λ (n : ℕ). bits n (getD w 7 0)) (lines-count (l .store)) ∙ sym b in
+    let c : bits (length (m .lines)) (getD w 7 0) ≡ views = ap (λ (j : ℕ). bits j (getD w 7 0)) (lines-count (l .store) ∙ sym k) ∙ sym b in
     by w (Tick views (getD w 6 0) (records (l .out)) (reportRoom (l .reports))) l a l₁
     (call-8 w m (records (l .out)) (reportRoom (l .reports)) e ∙ ap (λ (z : List ℕ). some (Tick z (getD w 6 0) (records (l .out)) (reportRoom (l .reports)))) c) d
 

@@ -14,7 +14,7 @@ ghost use Rattle.output.specs.Output.{overAt};
 ghost use Rattle.market_tick.specs.Turns.{lentAll};
 ghost use Rattle.codes.specs.Told.{Tells};
 ghost use Rattle.batch.specs.Batch.{MeetsBatch, Leaves, bits, lists, ran};
-ghost use Rattle.batch.specs.Told.{toldBatched};
+ghost use Rattle.batch.specs.Told.{TellsBatched};
 ghost use Rattle.batch.specs.Turn.{Calls, Does, Turns, TurnRoom, didSo};
 
 pub enum Batched {
@@ -98,7 +98,7 @@ fn tick(s: &mut [u64], out: &mut [u64], reports: &mut [u64], w: &[u64]) -> Ticke
     requires { ⌜ (Sound (now s)) × ((length (now w) ≡ 8) × (getD (now w) 0 0 ≡ 8)) ⌝ }
     ensures { λ r. ⌜ Calls (now (w .entry)) (lentAll (now (s .entry)) (now (out .entry)) (now (reports .entry))) (ofTicked r) (lentAll (now (s .exit)) (now (out .exit)) (now (reports .exit))) ⌝ }
 {
-    let lines = s[9] as usize;
+    let lines = store::conns::count(s);
     let t = w[6];
     let views = digits(lines, w[7]);
     steps::tick(s, out, reports, &views[..lines], t)
@@ -284,7 +284,7 @@ pub fn batch(
 }
 
 pub fn of_batched(a: Batched) -> Numbers
-    ensures { λ r. ⌜ a ≡ toldBatched (r .code) (r .calls) (r .records) (r .reports) ⌝ }
+    ensures { λ r. ⌜ TellsBatched a (r .code) (r .calls) (r .records) (r .reports) ⌝ }
 {
     match a {
         Batched::Did {

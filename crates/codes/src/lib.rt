@@ -1,6 +1,5 @@
-// An answer as three numbers: a code, a count of records and a count of reports.
-// Code 0 is a refusal, and its count the refusal's number; 1 done, 2 apply, 3 duplicate, 4 held, 5 ignored, 6 diverged, 7 failed,
-// 8 kept, 9 gone, 10 rebuild. Of a query 1 is yes and 2 no; of a view 1 with the count of its messages.
+// An answer as three numbers: a code, a count of records and a count of reports. The count of a refusal is its number, that of a view
+// how many messages it wrote.
 use rules::Asked;
 use rules::Changed;
 use rules::Lost;
@@ -8,8 +7,36 @@ use rules::Step;
 use rules::Ticked;
 use rules::Viewed;
 ghost use mathlib.Core.Path.{_≡_};
-ghost use Rattle.rules.specs.Answers.{ofStep, ofChanged, ofLost, ofTicked};
-ghost use Rattle.codes.specs.Told.{Tells, toldAsked, toldViewed};
+ghost use Rattle.rules.specs.Answers.{ofStep, ofChanged, ofLost, ofTicked, ofAsked, ofViewed};
+ghost use Rattle.codes.specs.Told.{Tells, TellsAsked, TellsViewed};
+
+const REFUSED: u64 = 0;
+
+const DONE: u64 = 1;
+
+const APPLY: u64 = 2;
+
+const DUPLICATE: u64 = 3;
+
+const HELD: u64 = 4;
+
+const IGNORED: u64 = 5;
+
+const DIVERGED: u64 = 6;
+
+const FAILED: u64 = 7;
+
+const KEPT: u64 = 8;
+
+const GONE: u64 = 9;
+
+const REBUILD: u64 = 10;
+// A query's codes, and a view's.
+const YES: u64 = 1;
+
+const NO: u64 = 2;
+
+const MESSAGES: u64 = 1;
 
 pub struct Told {
     pub code: u64,
@@ -22,12 +49,12 @@ pub fn of_changed(a: Changed) -> Told
 {
     match a {
         Changed::Done => Told {
-            code: 1,
+            code: DONE,
             count: 0,
             reports: 0,
         },
         Changed::Refused(n) => Told {
-            code: 0,
+            code: REFUSED,
             count: n,
             reports: 0,
         },
@@ -39,37 +66,37 @@ pub fn of_step(a: Step) -> Told
 {
     match a {
         Step::Apply(n) => Told {
-            code: 2,
+            code: APPLY,
             count: n as u64,
             reports: 0,
         },
         Step::Duplicate => Told {
-            code: 3,
+            code: DUPLICATE,
             count: 0,
             reports: 0,
         },
         Step::Held => Told {
-            code: 4,
+            code: HELD,
             count: 0,
             reports: 0,
         },
         Step::Ignored => Told {
-            code: 5,
+            code: IGNORED,
             count: 0,
             reports: 0,
         },
         Step::Diverged => Told {
-            code: 6,
+            code: DIVERGED,
             count: 0,
             reports: 0,
         },
         Step::Failed => Told {
-            code: 7,
+            code: FAILED,
             count: 0,
             reports: 0,
         },
         Step::Refused(n) => Told {
-            code: 0,
+            code: REFUSED,
             count: n,
             reports: 0,
         },
@@ -81,22 +108,22 @@ pub fn of_lost(a: Lost) -> Told
 {
     match a {
         Lost::Kept => Told {
-            code: 8,
+            code: KEPT,
             count: 0,
             reports: 0,
         },
         Lost::Gone => Told {
-            code: 9,
+            code: GONE,
             count: 0,
             reports: 0,
         },
         Lost::Rebuild(n) => Told {
-            code: 10,
+            code: REBUILD,
             count: n as u64,
             reports: 0,
         },
         Lost::Refused(n) => Told {
-            code: 0,
+            code: REFUSED,
             count: n,
             reports: 0,
         },
@@ -108,12 +135,12 @@ pub fn of_ticked(a: Ticked) -> Told
 {
     match a {
         Ticked::Done { reports, records } => Told {
-            code: 1,
+            code: DONE,
             count: records as u64,
             reports: reports as u64,
         },
         Ticked::Refused(n) => Told {
-            code: 0,
+            code: REFUSED,
             count: n,
             reports: 0,
         },
@@ -121,21 +148,21 @@ pub fn of_ticked(a: Ticked) -> Told
 }
 
 pub fn of_asked(a: Asked) -> Told
-    ensures { λ r. ⌜ a ≡ toldAsked (r .code) (r .count) ⌝ }
+    ensures { λ r. ⌜ TellsAsked (ofAsked a) (r .code) (r .count) ⌝ }
 {
     match a {
         Asked::Yes => Told {
-            code: 1,
+            code: YES,
             count: 0,
             reports: 0,
         },
         Asked::No => Told {
-            code: 2,
+            code: NO,
             count: 0,
             reports: 0,
         },
         Asked::Refused(n) => Told {
-            code: 0,
+            code: REFUSED,
             count: n,
             reports: 0,
         },
@@ -143,16 +170,16 @@ pub fn of_asked(a: Asked) -> Told
 }
 
 pub fn of_viewed(a: Viewed) -> Told
-    ensures { λ r. ⌜ a ≡ toldViewed (r .code) (r .count) ⌝ }
+    ensures { λ r. ⌜ TellsViewed (ofViewed a) (r .code) (r .count) ⌝ }
 {
     match a {
         Viewed::Messages(n) => Told {
-            code: 1,
+            code: MESSAGES,
             count: n as u64,
             reports: 0,
         },
         Viewed::Refused(n) => Told {
-            code: 0,
+            code: REFUSED,
             count: n,
             reports: 0,
         },

@@ -16,14 +16,14 @@ use Rattle.rules.specs.Lines.{Market, InLine, isPending, fresh}
 use Rattle.rules.specs.Calls.{Outcome, refused, did, done, refuse, just}
 use Rattle.rules.specs.Refusals.{Call, step, setup}
 use Rattle.rules.specs.Answers.{Said, number, word, saidBy}
-use Rattle.rules.specs.Demand.{books, bookKeys, History, follow, run, setUp, lineFor, Agreed, own, GoesOn, Ends, Passed, marketAfter, recordsOf, Unrefused, after, records}
+use Rattle.rules.specs.Demand.{books, bookKeys, History, follow, run, setUp, lineFor, Agreed, own, GoesOn, Ends, Passed, marketAfter, recordsOf, Unrefused, after, records, answers}
 use Rattle.rules.proofs.ListLaws.{append-nil}
 use Rattle.rules.proofs.Demand3.{demand3}
 use Rattle.store.specs.Store.{marketOf, Sound}
 use Rattle.output.specs.Output.{kindWord, kindOf, recordWords, recordsWords, recordOf, recordsIn}
 use Rattle.market.specs.Lent.{Lent, Leaves}
 use Rattle.promise.specs.Meets.{Meets, SetsUp, MeetsSetup}
-use Rattle.demand.specs.DemandOnWords.{Made, Chain, lastStore, callsOf, putOutBy, putOut, takenBy, taken, Accepted, DemandOn, Demand3OnWords}
+use Rattle.demand.specs.DemandOnWords.{Made, Chain, lastStore, callsOf, putOutBy, putOut, answersOf, takenBy, taken, Accepted, DemandOn, Demand3OnWords}
 
 -- ---- records read back
 
@@ -144,14 +144,17 @@ accepted w (d ∷ ds) s c u =
 
 leaves : (w : List ℕ) (ds : List Made) → Sound w → Chain w ds
     → (after (marketOf w) (callsOf ds) ≡ marketOf (lastStore w ds)) × (records (marketOf w) (callsOf ds) ≡ putOut ds)
-unfolding after records lastStore putOut Chain
-leaves w [] s c = (refl, refl)
+    × (answers (marketOf w) (callsOf ds) ≡ answersOf ds)
+unfolding after records answers lastStore putOut Chain
+leaves w [] s c = (refl, refl, refl)
 leaves w (d ∷ ds) s c =
     let t = stepped w d (c .0) s (c .1) in
     let r = leaves (d .after .store) ds (t .sound) (c .2) in (
       ap (λ (m : Market). after m (callsOf ds)) (t .next) ∙ r .0,
       ap (λ (m : Market). recordsOf (step (d .call) (marketOf w)) ++ records m (callsOf ds)) (t .next) ∙ ap (λ (x : List Applied). x ++ records (marketOf (d .after .store)) (callsOf ds)) (t .out)
           ∙ ap (λ (x : List Applied). putOutBy (d .answer) (d .after .out) ++ x) (r .1),
+      ap (λ (m : Market). saidBy (step (d .call) (marketOf w)) ∷ answers m (callsOf ds)) (t .next)
+          ∙ ap (λ (a : Said). a ∷ answers (marketOf (d .after .store)) (callsOf ds)) (sym (t .answer)) ∙ ap {B = List Said} (λ l. d .answer ∷ l) (r .2),
     )
 
 -- ---- the theorem
@@ -186,8 +189,10 @@ from-fresh l start w s e ds c =
           let z = go np nb U (callsOf xs) on (unrefused v xs (r .sound) cx ax) (callsOf ys) o in
           let q = leaves v ys (r .sound) cy in (
             accepted v ys (r .sound) cy (z .0),
-            subst (λ (m : Market). Ends (marketOf v) U (callsOf xs) m (putOut ys)) (q .0)
-                (subst (λ (x : List Applied). Ends (marketOf v) U (callsOf xs) (after (marketOf v) (callsOf ys)) x) (q .1) (z .1)),
+            subst (λ (m : Market). Ends (marketOf v) U (callsOf xs) m (putOut ys) (answersOf ys)) (q .0)
+                (subst (λ (x : List Applied). Ends (marketOf v) U (callsOf xs) (after (marketOf v) (callsOf ys)) x (answersOf ys)) (q .1)
+                (subst (λ (a : List Said). Ends (marketOf v) U (callsOf xs) (after (marketOf v) (callsOf ys)) (records (marketOf v) (callsOf ys)) a)
+                (q .2) (z .1))),
           );
     }
   where
@@ -196,7 +201,7 @@ from-fresh l start w s e ds c =
         → ((c n : ℕ) (a b : Bool) → lineFor c m ≡ InLine n a b → m .log .base ≤ n)
         → (U : List Key) (xs : List Call) → GoesOn m U xs → Unrefused m xs
         → (ys : List Call) → ((c : ℕ) → own c ys ≡ own c xs)
-        → Unrefused m ys × Ends m U xs (after m ys) (records m ys)
+        → Unrefused m ys × Ends m U xs (after m ys) (records m ys) (answers m ys)
 
 pub demand3-on-words : Demand3OnWords
 demand3-on-words l start before w m ds c = let r = made l start before w m in from-fresh l start w (r .0) (r .1) ds c

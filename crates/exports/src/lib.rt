@@ -1,6 +1,6 @@
 // The calls for a host in C or Rust. A slice is a pointer and a length; the slices and pointers of one call may not overlap.
-// A call answers a code, with its counts behind pointers: crate codes says what they mean. The contracts are those of crate calls, with
-// `told` for the answer.
+// A call answers a code, with its counts behind pointers: crate codes says what they mean. The contracts are those of the calls, of
+// the answer that these numbers tell.
 use rules::EventKey;
 use rules::Limits;
 ghost use mathlib.Core.Path.{_≡_};
@@ -12,9 +12,9 @@ ghost use Rattle.market.specs.Lent.{lent, alone};
 ghost use Rattle.market_tick.specs.Turns.{lentAll};
 ghost use Rattle.steps.specs.Steps.{records, reportRoom};
 ghost use Rattle.promise.specs.Meets.{Promise, ofCall, ofSetup, ofQuery, ofView, says, asks, views};
-ghost use Rattle.codes.specs.Told.{told, toldAsked, toldViewed};
+ghost use Rattle.codes.specs.Told.{Tells, TellsAsked, TellsViewed, Telling};
 ghost use Rattle.batch.specs.Batch.{MeetsBatch, lists};
-ghost use Rattle.batch.specs.Told.{toldBatched};
+ghost use Rattle.batch.specs.Told.{TellsBatched};
 
 #[no_mangle]
 pub extern "C" fn merge_setup(
@@ -27,7 +27,9 @@ pub extern "C" fn merge_setup(
     start: u64,
     count: &mut u64,
 ) -> u64
-    ensures { λ r. ⌜ Promise (ofSetup (record { L = lines; H = held; G = events; C = keys; D = pairs }) start) (alone (now (s .entry))) (says (told r (now (count .exit)) 0)) (alone (now (s .exit))) ⌝ }
+    ensures { λ r. ⌜ Telling (λ a. Tells a r (now (count .exit)) 0)
+        (λ a. Promise (ofSetup (record { L = lines; H = held; G = events; C = keys; D = pairs }) start)
+        (alone (now (s .entry))) (says a) (alone (now (s .exit)))) ⌝ }
 {
     let l = Limits {
         L: lines,
@@ -44,7 +46,8 @@ pub extern "C" fn merge_setup(
 
 #[no_mangle]
 pub extern "C" fn merge_subscribe(s: &mut [u64], conn: u64, t: u64, count: &mut u64) -> u64
-    ensures { λ r. ⌜ Promise (ofCall (Subscribe conn t)) (alone (now (s .entry))) (says (told r (now (count .exit)) 0)) (alone (now (s .exit))) ⌝ }
+    ensures { λ r. ⌜ Telling (λ a. Tells a r (now (count .exit)) 0)
+        (λ a. Promise (ofCall (Subscribe conn t)) (alone (now (s .entry))) (says a) (alone (now (s .exit)))) ⌝ }
 {
     let a = calls::subscribe(s, conn, t);
     let told = codes::of_changed(a);
@@ -62,7 +65,9 @@ pub extern "C" fn merge_snapshot(
     t: u64,
     count: &mut u64,
 ) -> u64
-    ensures { λ r. ⌜ Promise (ofCall (Snapshot conn token message t (records (now (out .entry))))) (lent (now (s .entry)) (now (out .entry))) (says (told r (now (count .exit)) 0)) (lent (now (s .exit)) (now (out .exit))) ⌝ }
+    ensures { λ r. ⌜ Telling (λ a. Tells a r (now (count .exit)) 0)
+        (λ a. Promise (ofCall (Snapshot conn token message t (records (now (out .entry)))))
+        (lent (now (s .entry)) (now (out .entry))) (says a) (lent (now (s .exit)) (now (out .exit)))) ⌝ }
 {
     let a = calls::snapshot(s, out, conn, token, message, t);
     let told = codes::of_step(a);
@@ -81,7 +86,9 @@ pub extern "C" fn merge_book_event(
     t: u64,
     count: &mut u64,
 ) -> u64
-    ensures { λ r. ⌜ Promise (ofCall (BookEvent conn (key key0 key1) message t (records (now (out .entry))))) (lent (now (s .entry)) (now (out .entry))) (says (told r (now (count .exit)) 0)) (lent (now (s .exit)) (now (out .exit))) ⌝ }
+    ensures { λ r. ⌜ Telling (λ a. Tells a r (now (count .exit)) 0)
+        (λ a. Promise (ofCall (BookEvent conn (key key0 key1) message t (records (now (out .entry)))))
+        (lent (now (s .entry)) (now (out .entry))) (says a) (lent (now (s .exit)) (now (out .exit)))) ⌝ }
 {
     let key = EventKey(key0, key1);
     let a = calls::book_event(s, out, conn, key, message, t);
@@ -101,7 +108,9 @@ pub extern "C" fn merge_print(
     t: u64,
     count: &mut u64,
 ) -> u64
-    ensures { λ r. ⌜ Promise (ofCall (Print conn (key key0 key1) message t (records (now (out .entry))))) (lent (now (s .entry)) (now (out .entry))) (says (told r (now (count .exit)) 0)) (lent (now (s .exit)) (now (out .exit))) ⌝ }
+    ensures { λ r. ⌜ Telling (λ a. Tells a r (now (count .exit)) 0)
+        (λ a. Promise (ofCall (Print conn (key key0 key1) message t (records (now (out .entry)))))
+        (lent (now (s .entry)) (now (out .entry))) (says a) (lent (now (s .exit)) (now (out .exit)))) ⌝ }
 {
     let key = EventKey(key0, key1);
     let a = calls::other(s, out, conn, key, message, t);
@@ -118,7 +127,9 @@ pub extern "C" fn merge_drop(
     t: u64,
     count: &mut u64,
 ) -> u64
-    ensures { λ r. ⌜ Promise (ofCall (Drop conn t (records (now (out .entry))))) (lent (now (s .entry)) (now (out .entry))) (says (told r (now (count .exit)) 0)) (lent (now (s .exit)) (now (out .exit))) ⌝ }
+    ensures { λ r. ⌜ Telling (λ a. Tells a r (now (count .exit)) 0)
+        (λ a. Promise (ofCall (Drop conn t (records (now (out .entry)))))
+        (lent (now (s .entry)) (now (out .entry))) (says a) (lent (now (s .exit)) (now (out .exit)))) ⌝ }
 {
     let a = calls::drop_conn(s, out, conn, t);
     let told = codes::of_lost(a);
@@ -128,7 +139,9 @@ pub extern "C" fn merge_drop(
 
 #[no_mangle]
 pub extern "C" fn merge_promote(s: &mut [u64], out: &mut [u64], t: u64, count: &mut u64) -> u64
-    ensures { λ r. ⌜ Promise (ofCall (Promote t (records (now (out .entry))))) (lent (now (s .entry)) (now (out .entry))) (says (told r (now (count .exit)) 0)) (lent (now (s .exit)) (now (out .exit))) ⌝ }
+    ensures { λ r. ⌜ Telling (λ a. Tells a r (now (count .exit)) 0)
+        (λ a. Promise (ofCall (Promote t (records (now (out .entry)))))
+        (lent (now (s .entry)) (now (out .entry))) (says a) (lent (now (s .exit)) (now (out .exit)))) ⌝ }
 {
     let a = calls::promote(s, out, t);
     let told = codes::of_lost(a);
@@ -138,7 +151,8 @@ pub extern "C" fn merge_promote(s: &mut [u64], out: &mut [u64], t: u64, count: &
 
 #[no_mangle]
 pub extern "C" fn merge_reset(s: &mut [u64], t: u64, count: &mut u64) -> u64
-    ensures { λ r. ⌜ Promise (ofCall (Reset t)) (alone (now (s .entry))) (says (told r (now (count .exit)) 0)) (alone (now (s .exit))) ⌝ }
+    ensures { λ r. ⌜ Telling (λ a. Tells a r (now (count .exit)) 0)
+        (λ a. Promise (ofCall (Reset t)) (alone (now (s .entry))) (says a) (alone (now (s .exit)))) ⌝ }
 {
     let a = calls::reset(s, t);
     let told = codes::of_changed(a);
@@ -156,7 +170,10 @@ pub extern "C" fn merge_tick(
     count: &mut u64,
     reported: &mut u64,
 ) -> u64
-    ensures { λ r. ⌜ Promise (ofCall (Tick (now (answers .entry)) t (records (now (out .entry))) (reportRoom (now (reports .entry))))) (lentAll (now (s .entry)) (now (out .entry)) (now (reports .entry))) (says (told r (now (count .exit)) (now (reported .exit)))) (lentAll (now (s .exit)) (now (out .exit)) (now (reports .exit))) ⌝ }
+    ensures { λ r. ⌜ Telling (λ a. Tells a r (now (count .exit)) (now (reported .exit)))
+        (λ a. Promise (ofCall (Tick (now (answers .entry)) t (records (now (out .entry))) (reportRoom (now (reports .entry)))))
+        (lentAll (now (s .entry)) (now (out .entry)) (now (reports .entry)))
+        (says a) (lentAll (now (s .exit)) (now (out .exit)) (now (reports .exit)))) ⌝ }
 {
     let a = calls::tick(s, out, reports, answers, t);
     let told = codes::of_ticked(a);
@@ -178,7 +195,10 @@ pub extern "C" fn merge_batch(
     count: &mut u64,
     reported: &mut u64,
 ) -> u64
-    ensures { λ r. ⌜ MeetsBatch (now (calls .entry)) (lists (now (s .entry)) (now (out .entry)) (now (reports .entry)) (now (answers .entry))) (toldBatched r (now (done .exit)) (now (count .exit)) (now (reported .exit))) (lists (now (s .exit)) (now (out .exit)) (now (reports .exit)) (now (answers .exit))) ⌝ }
+    ensures { λ r. ⌜ Telling (λ a. TellsBatched a r (now (done .exit)) (now (count .exit)) (now (reported .exit)))
+        (λ a. MeetsBatch (now (calls .entry))
+        (lists (now (s .entry)) (now (out .entry)) (now (reports .entry)) (now (answers .entry)))
+        a (lists (now (s .exit)) (now (out .exit)) (now (reports .exit)) (now (answers .exit)))) ⌝ }
 {
     let a = batch::batch(s, out, reports, answers, calls);
     let told = batch::of_batched(a);
@@ -190,7 +210,8 @@ pub extern "C" fn merge_batch(
 
 #[no_mangle]
 pub extern "C" fn merge_in_line(s: &[u64], conn: u64, count: &mut u64) -> u64
-    ensures { λ r. ⌜ Promise (ofQuery (Rules.inLine conn)) (alone (now (s .entry))) (asks (toldAsked r (now (count .exit)))) (alone (now (s .entry))) ⌝ }
+    ensures { λ r. ⌜ Telling (λ a. TellsAsked a r (now (count .exit)))
+        (λ a. Promise (ofQuery (Rules.inLine conn)) (alone (now (s .entry))) (asks a) (alone (now (s .entry)))) ⌝ }
 {
     let a = queries::in_line(s, conn);
     let told = codes::of_asked(a);
@@ -200,7 +221,8 @@ pub extern "C" fn merge_in_line(s: &[u64], conn: u64, count: &mut u64) -> u64
 
 #[no_mangle]
 pub extern "C" fn merge_any_in_line(s: &[u64], count: &mut u64) -> u64
-    ensures { λ r. ⌜ Promise (ofQuery Rules.anyInLine) (alone (now (s .entry))) (asks (toldAsked r (now (count .exit)))) (alone (now (s .entry))) ⌝ }
+    ensures { λ r. ⌜ Telling (λ a. TellsAsked a r (now (count .exit)))
+        (λ a. Promise (ofQuery Rules.anyInLine) (alone (now (s .entry))) (asks a) (alone (now (s .entry)))) ⌝ }
 {
     let a = queries::any_in_line(s);
     let told = codes::of_asked(a);
@@ -210,7 +232,8 @@ pub extern "C" fn merge_any_in_line(s: &[u64], count: &mut u64) -> u64
 
 #[no_mangle]
 pub extern "C" fn merge_servable(s: &[u64], count: &mut u64) -> u64
-    ensures { λ r. ⌜ Promise (ofQuery Rules.servable) (alone (now (s .entry))) (asks (toldAsked r (now (count .exit)))) (alone (now (s .entry))) ⌝ }
+    ensures { λ r. ⌜ Telling (λ a. TellsAsked a r (now (count .exit)))
+        (λ a. Promise (ofQuery Rules.servable) (alone (now (s .entry))) (asks a) (alone (now (s .entry)))) ⌝ }
 {
     let a = queries::servable(s);
     let told = codes::of_asked(a);
@@ -220,7 +243,8 @@ pub extern "C" fn merge_servable(s: &[u64], count: &mut u64) -> u64
 
 #[no_mangle]
 pub extern "C" fn merge_view(s: &[u64], conn: u64, list: &mut [u64], count: &mut u64) -> u64
-    ensures { λ r. ⌜ Promise (ofView conn) (lent (now (s .entry)) (now (list .entry))) (views (toldViewed r (now (count .exit)))) (lent (now (s .entry)) (now (list .exit))) ⌝ }
+    ensures { λ r. ⌜ Telling (λ a. TellsViewed a r (now (count .exit)))
+        (λ a. Promise (ofView conn) (lent (now (s .entry)) (now (list .entry))) (views a) (lent (now (s .entry)) (now (list .exit)))) ⌝ }
 {
     let a = queries::view(s, conn, list);
     let told = codes::of_viewed(a);

@@ -8,7 +8,7 @@ pub mod load;
 mod sip;
 
 // The word that stands before a message in its second hash.
-const PREFIX: u64 = 0x9E3779B97F4A7C15;
+const SECOND: u64 = 0x9E3779B97F4A7C15;
 
 // The key of a message's bytes, of any length: both hashes in one pass.
 pub fn key_of(bytes: &[u8]) -> EventKey
@@ -16,7 +16,7 @@ pub fn key_of(bytes: &[u8]) -> EventKey
 {
     let len = bytes.len() as u64;
     let mut first = State::new();
-    let mut second = State::new().compress(PREFIX);
+    let mut second = State::new().compress(SECOND);
     let mut at = 0;
     while 8 <= bytes.len() - at {
         let m = load::load64(bytes, at);

@@ -5,6 +5,7 @@ use Prim.Native.Nat.{ℕ, zero, suc, _+_, _≤_, _<_}
 use native.Mathlib.Nat.{not-suc-le-zero, le-of-suc-le-suc}
 use native.Mathlib.Numerals.{add-one}
 use lib.ListN.{length, getD, set}
+use Rattle.rules.specs.declared.Limits.{Limits}
 use Rattle.rules.specs.Lines as Rules
 use Rattle.rules.specs.Lines.{Connection, Market, nobody, connAt, withLines, setLine}
 use Rattle.rules.specs.Calls.{eachLine}
@@ -14,8 +15,9 @@ use Rattle.lines.specs.Area.{headLine}
 use Rattle.store.specs.Store.{limitsOf, lineCount, lineWordsAt, marketOf, Sized}
 use Rattle.store.specs.Moves.{Moved}
 use Rattle.store.specs.ConnMoves.{itemsAt, Lined, LineAt}
-use Rattle.store.proofs.FrameLaws.{moved-is}
-use Rattle.store.proofs.ConnLaws.{lines-count, line-told}
+use Rattle.store.proofs.MarketLaws.{market-limits, lines-count}
+use Rattle.store.proofs.FrameLaws.{moved-limits, moved-is}
+use Rattle.store.proofs.ConnLaws.{line-told}
 
 -- one line changed, by value
 pub line-changed : (w v : List ℕ) (i : ℕ) → i < lineCount w → (g : Rules.Line → Rules.Line) (l new : Line) → l ≡ headLine (lineWordsAt w i)
@@ -69,9 +71,8 @@ module _ (f : Rules.Line → Rules.Line) (w : List ℕ) where
     count = sym (lines-count v) ∙ ap (λ (m : Market). length (m .lines)) (a .market) ∙ first-length (onLine f) i (marketOf w .lines) ∙ lines-count w
 
     pub each-here : Lined w → i < lineCount w → LineAt v i
-    unfolding marketOf
     each-here z h =
-        let l : limitsOf v .L ≡ limitsOf w .L = ap (λ (m : Market). m .limits .L) (a .market) in
+        let l : limitsOf v .L ≡ limitsOf w .L = ap (λ (m : Limits). m .L) (moved-limits a ∙ market-limits w) in
         record { lined = record { sized = a .sized; count = rw (count, l) (z .count) }; here = rw count h }
 
     pub each-more : (x : List ℕ) → i < lineCount w → Moved v x (setLine i (f ((connAt i (marketOf v)) .line)) (marketOf v)) → Partly (i + 1) x

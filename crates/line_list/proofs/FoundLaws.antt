@@ -11,9 +11,10 @@ use Rattle.rules.specs.Lines.{Connection, nobody, connAt, waiting, subscribed, 
 use Rattle.rules.proofs.Tests.{leb-false}
 use Rattle.store.specs.Store.{limitsOf, lineCount, marketOf, Sound}
 use Rattle.store.specs.Moves.{Moved}
+use Rattle.store.proofs.MarketLaws.{market-limits, lines-count}
 use Rattle.store.proofs.FrameLaws.{moved-is}
-use Rattle.store.proofs.ConnLaws.{ofConn, lines-count, lined-sound}
-use Rattle.line_list.specs.Listed.{without, inserted, Room}
+use Rattle.store.proofs.ConnLaws.{ofConn, lined-sound}
+use Rattle.store.specs.Areas.{without, inserted, Room}
 use Rattle.line_list.proofs.ListedLaws.{without-none, index-le, keep-without, notLower, subscribed-there, Absent, subscribed-new, absent-none}
 
 module _ (w : List ℕ) (s : Sound w) (i conn : ℕ) where
@@ -63,10 +64,9 @@ module _ (w : List ℕ) (s : Sound w) (i conn : ℕ) where
           )
 
       pub room-found : not (any (λ c. eqb (c .conn) conn) (marketOf w .lines)) && leb (marketOf w .limits .L) (length (marketOf w .lines)) ≡ false → Room w i
-      unfolding marketOf
       room-found e =
           let z : any (ofConn conn) (marketOf w .lines) ≡ false = absent-none conn (marketOf w .lines) (s .market .lines .rises) absent in
-          let r : leb (limitsOf w .L) (length (marketOf w .lines)) ≡ false = rw z at e in
+          let r : leb (limitsOf w .L) (length (marketOf w .lines)) ≡ false = rw (z, market-limits w) at e in
           let u : length (marketOf w .lines) < limitsOf w .L = leb-false r in
           record {
             lined = lined-sound w s;

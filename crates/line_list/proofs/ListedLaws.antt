@@ -13,11 +13,10 @@ use Rattle.rules.specs.Lines.{Connection, nobody, waiting, subscribed}
 use Rattle.rules.proofs.Tests.{leb-true, leb-false, eqb-true, eqb-false, eqb-same, eqb-other, lt-ltb, le-ltb}
 use Rattle.rules.proofs.ListLaws.{each-imp}
 use Rattle.rules.proofs.Invariant.{Sorted}
-use Rattle.words.specs.Words.{tab, Says}
+use Rattle.words.specs.Words.{Says}
 use Rattle.words.proofs.Cases.{says}
-use Rattle.words.proofs.Tab.{tab-ext}
 use Rattle.store.proofs.ConnLaws.{ofConn}
-use Rattle.line_list.specs.Listed.{without, inserted}
+use Rattle.store.specs.Areas.{without, inserted}
 
 module _ {A : Type 0} where
   pub without-none : (i : ℕ) (l : List A) → length l ≤ i → without i l ≡ l
@@ -33,29 +32,6 @@ module _ {A : Type 0} where
       go : (b : Bool) → index t xs ≤ length xs → cond b zero (suc (index t xs)) ≤ suc (length xs)
       go true h = omega arith
       go false h = omega arith
-
-  -- rows of an index: one fewer, or one more
-  pub tab-without : (n : ℕ) (f g : ℕ → A) (i : ℕ) → i ≤ n → ((j : ℕ) → j < i → g j ≡ f j) → ((j : ℕ) → i ≤ j → j < n → g j ≡ f (suc j))
-      → tab n g ≡ without i (tab (suc n) f)
-  unfolding without
-  tab-without n f g zero h a b = tab-ext n g (λ j. f (suc j)) (λ j l. b j zero-le l)
-  tab-without zero f g (suc i) h a b = absurd (not-suc-le-zero h)
-  tab-without (suc n) f g (suc i) h a b =
-      rw (
-        a 0 (suc-le-suc zero-le),
-        tab-without n (λ j. f (suc j)) (λ j. g (suc j)) i (le-of-suc-le-suc h) (λ j l. a (suc j) (suc-le-suc l)) (λ j k l. b (suc j) (suc-le-suc k) (suc-le-suc l)),
-      )
-
-  pub tab-inserted : (n : ℕ) (f g : ℕ → A) (i : ℕ) (x : A) → i ≤ n → g i ≡ x → ((j : ℕ) → j < i → g j ≡ f j) → ((j : ℕ) → i ≤ j → j < n → g (suc j) ≡ f j)
-      → tab (suc n) g ≡ inserted i x (tab n f)
-  unfolding inserted
-  tab-inserted n f g zero x h q a b = rw (q, tab-ext n (λ j. g (suc j)) f (λ j l. b j zero-le l))
-  tab-inserted zero f g (suc i) x h q a b = absurd (not-suc-le-zero h)
-  tab-inserted (suc n) f g (suc i) x h q a b =
-      rw (
-        a 0 (suc-le-suc zero-le),
-        tab-inserted n (λ j. f (suc j)) (λ j. g (suc j)) i x (le-of-suc-le-suc h) q (λ j l. a (suc j) (suc-le-suc l)) (λ j k l. b (suc j) (suc-le-suc k) (suc-le-suc l)),
-      )
 
   keep-all : (t : A → Bool) (l : List A) → Each (λ x. t x ≡ true) l → keep t l ≡ l
   keep-all t [] h = refl

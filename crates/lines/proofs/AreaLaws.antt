@@ -5,24 +5,35 @@ use mathlib.Core.Bool.{Bool, true, false, not}
 use Prim.Native.Nat.{ℕ, zero, suc, _+_, _-_, _*_, _^_, _≤_, _<_}
 use native.Mathlib.Omega.{arith}
 use lib.Dec.{eqb, eqb·suc-zero}
-use lib.ListN.{length, getD, drop, set, length-set, drop-of-length-le}
+use lib.ListN.{length, getD, drop, set, length-set}
 use lib.Seq.{getD-set-same, getD-set-other}
 use Rattle.rules.specs.Lists.{any}
 use Rattle.rules.specs.Quantities.{Key, key, same}
 use Rattle.rules.specs.declared.Stamp.{Stamp}
 use Rattle.rules.specs.declared.Stamp.the-variants as Stamp
 use Rattle.rules.specs.Lines as Rules
-use Rattle.rules.specs.Lines.{Connection}
+use Rattle.rules.specs.Lines.{waiting}
+use Rattle.rules.proofs.Tests.{ff≢tt}
 use Rattle.words.specs.Words.{part, back, tab}
-use Rattle.words.proofs.Parts.{Loan, part-length, length-back, part-ext, part-same, part-after, back-below, back-above, back-in, back-start}
-use Rattle.words.proofs.Tab.{length-tab, getD-tab, tab-ext, tab-snoc}
+use Rattle.words.proofs.Parts.{Loan, getD-part, part-length, length-back, part-ext, part-same, part-after, back-below, back-above, back-in, back-start}
+use Rattle.words.proofs.Tab.{getD-tab, tab-ext, tab-snoc}
 use Rattle.place.specs.Items.{itemsIn, kindOf, Room}
-use Rattle.place.proofs.Items.{any-here, any-over, any-end, items-length}
+use Rattle.place.proofs.Items.{any-here, any-over, any-end}
 use Rattle.rules.specs.declared.Item.{Item}
 use Rattle.lines.specs.declared.Line.{Line}
 use Rattle.lines.specs.declared.Line.the-variants as Line
 use Rattle.lines.specs.Line.{lineOf, heldOf, holding}
 use Rattle.lines.specs.Area.{flag, stampIn, byKind, lineIn, flagOf, stampFlag, stampTime, lineWords, printIn, printsIn, itemWords, printWords, headLine, printCount, noPrint, connOf, withLine, withHeld}
+
+-- ---- a time with its flag
+
+pub stamp-at : (f t : ℕ) → (f ≡ 0 → ⊥) → Stamp.At t ≡ stampIn f t
+stamp-at zero t g = absurd (g refl)
+stamp-at (suc f) t g = refl
+
+pub stamp-back : (s : Stamp) → stampIn (stampFlag s) (stampTime s) ≡ s
+stamp-back Stamp.Never = refl
+stamp-back (Stamp.At t) = refl
 
 -- ---- reading a line
 
@@ -37,11 +48,7 @@ module _ (v : List ℕ) where
 
   pub says-pending-at : getD v 0 0 ≡ 1 → (getD v 3 0 ≡ 0 → ⊥) → Line.Pending (getD v 1 0) (Stamp.At (getD v 4 0)) (getD v 2 0) ≡ lineIn v
   unfolding lineIn
-  says-pending-at e f = rw e (ap (λ (s : Stamp). Line.Pending (getD v 1 0) s (getD v 2 0)) (stamp (getD v 3 0) f))
-    where
-      stamp : (n : ℕ) → (n ≡ 0 → ⊥) → Stamp.At (getD v 4 0) ≡ stampIn n (getD v 4 0)
-      stamp zero g = absurd (g refl)
-      stamp (suc n) g = refl
+  says-pending-at e f = rw e (ap (λ (s : Stamp). Line.Pending (getD v 1 0) s (getD v 2 0)) (stamp-at (getD v 3 0) (getD v 4 0) f))
 
   pub says-in-line : getD v 0 0 ≡ 2 → Line.InLine (getD v 5 0) (not (eqb (getD v 6 0) 0)) (not (eqb (getD v 7 0) 0)) ≡ lineIn v
   unfolding lineIn
@@ -73,11 +80,7 @@ words-of Line.Failed = refl
 pub line-back : (l : Line) → lineIn (lineWords l) ≡ l
 unfolding lineIn lineWords
 line-back (Line.Waiting n since) = refl
-line-back (Line.Pending n at since) = ap (λ (s : Stamp). Line.Pending n s since) (stamp at)
-  where
-    stamp : (s : Stamp) → stampIn (stampFlag s) (stampTime s) ≡ s
-    stamp Stamp.Never = refl
-    stamp (Stamp.At t) = refl
+line-back (Line.Pending n at since) = ap (λ (s : Stamp). Line.Pending n s since) (stamp-back at)
 line-back (Line.InLine n a b) = rw (bit a, bit b)
   where
     bit : (x : Bool) → flag (flagOf x) ≡ x
@@ -184,12 +187,35 @@ module _ (h : ℕ) (w : List ℕ) (size : length w ≡ 7 * h + 64) where
       let p : printWords h u ≡ printWords h w = part-after 32 e ys w loan e (7 * h + 64) (omega arith) (omega arith) in
       set-line-conn h u l lu ∙ (λ j. record { conn = a j; line = lineOf l (i j); held = printsIn (d j) (p j) })
 
--- what a line counts is what it holds
-pub held-now : (r : ℕ) (l : Line) → ((w : List ℕ) → r ≡ length (Rules.itemsOf (lineOf l w))) → r ≡ heldOf l
-held-now r (Line.Waiting n since) f = f [] ∙ items-length n []
-held-now r (Line.Pending n at since) f = f [] ∙ items-length n []
-held-now r (Line.InLine n a b) f = f []
-held-now r Line.Failed f = f []
+-- ---- an area written anew: the connection, a line that is Waiting, empty, and no print
+
+module _ (v : List ℕ) (conn t : ℕ) (l : Line) (long : 32 ≤ length v) (e : (u : List ℕ) → lineOf l u ≡ Rules.Waiting [] t) where
+  u : List ℕ
+  u = set v 0 conn
+
+  line-loan : Loan 1 9 (lineWords l) u
+  unfolding u
+  line-loan = record { kept = words-of l; start = omega arith; inside = omega (arith, length-set v 0 conn) }
+
+  ys : List ℕ
+  ys = back 1 9 (lineWords l) u
+
+  size : length ys ≡ length v
+  unfolding u ys
+  size = length-back 1 9 (lineWords l) u line-loan ∙ length-set v 0 conn
+
+  pub waiting-done : (x z : List ℕ) → x ≡ back 1 9 (lineWords l) (set v 0 conn) → z ≡ set x 9 0 → (h : ℕ) → connOf h z ≡ waiting conn t
+  unfolding connOf printsIn u ys
+  waiting-done x z p q h =
+      let w = set ys 9 0 in
+      let s : z ≡ w = q ∙ ap (λ (y : List ℕ). set y 9 0) p in
+      let other : (j : ℕ) → (j ≡ 9 → ⊥) → getD w j 0 ≡ getD ys j 0 = λ j n. getD-set-other ys 9 j 0 0 n in
+      let a : getD w 0 0 ≡ conn = other 0 (λ n. omega arith) ∙ back-below 1 9 (lineWords l) u line-loan 0 (omega arith) ∙ getD-set-same v 0 conn 0 (omega arith) in
+      let b : part 1 9 w ≡ lineWords l =
+      part-ext 1 9 w ys (length-set ys 9 0) (omega (arith, size)) (λ j m n. other j (λ k. omega arith)) ∙ part-same 1 9 (lineWords l) u line-loan in
+      let c : lineOf (headLine w) (itemWords h w) ≡ Rules.Waiting [] t = ap (λ (y : Line). lineOf y (itemWords h w)) (ap lineIn b ∙ line-back l) ∙ e (itemWords h w) in
+      let d : printCount w ≡ 0 = getD-set-same ys 9 0 0 (omega (arith, size)) in
+      ap (connOf h) s ∙ (λ j. record { conn = a j; line = c j; held = printsIn (d j) (printWords h w) })
 
 pub hold-item-ready : (h : ℕ) (w : List ℕ) → length w ≡ 7 * h + 64 → (l : Line) → l ≡ headLine w → heldOf (headLine w) < h + 8 → (held : ℕ) → held ≡ heldOf l
     → (item : Item) → kindOf item < 2 ^ 64 → Room (part 32 (4 * h + 64) w) held item
@@ -226,3 +252,24 @@ drop-prints-done h w size z q = ap (connOf h) q ∙ set-prints-conn h w size 0
 pub print-at-done : (h : ℕ) (w : List ℕ) (i : ℕ) → i < printCount w → (x : Key × ℕ) → x ≡ printIn (printWords h w) i → x ≡ getD (connOf h w .held) i noPrint
 unfolding connOf printsIn
 print-at-done h w i lt x e = e ∙ sym (getD-tab (printCount w) (printIn (printWords h w)) i noPrint lt)
+
+-- ---- known kinds
+
+-- of a line that has not failed
+pub kind-known : (h : ℕ) (v : List ℕ) → Rules.isFailed (connOf h v .line) ≡ false → getD v 1 0 ≤ 3
+unfolding connOf lineIn
+kind-known h v e = let q : getD (part 1 9 v) 0 0 ≡ getD v 1 0 = getD-part 1 9 v 0 (omega arith) in rw (← q) (go (getD (part 1 9 v) 0 0) _ _ _ _ e)
+  where
+    go : (k : ℕ) (x y z : Line) (is : List ℕ) → Rules.isFailed (lineOf (byKind k x y z) is) ≡ false → k ≤ 3
+    go zero x y z is e = omega arith
+    go (suc zero) x y z is e = omega arith
+    go (suc (suc zero)) x y z is e = omega arith
+    go (suc (suc (suc k))) x y z is e = absurd (ff≢tt e refl)
+
+-- of a line that is written
+pub kind-written : (l : Line) → getD (lineWords l) 0 0 ≤ 3
+unfolding lineWords
+kind-written (Line.Waiting n since) = omega arith
+kind-written (Line.Pending n at since) = omega arith
+kind-written (Line.InLine n a b) = omega arith
+kind-written Line.Failed = omega arith

@@ -1,4 +1,5 @@
 pub mod Laws
+pub mod HeldLaws
 pub mod StepLaws
 pub mod AreaLaws
 pub mod SoundLaws

@@ -2,7 +2,7 @@
 use mathlib.Core.Path.{_≡_, refl, sym, subst}
 use mathlib.Core.List.{List}
 use mathlib.Core.Bool.{Bool, true, false}
-use Prim.Native.Nat.{ℕ, zero, suc, _+_, _*_, _≤_, _<_, zero-le, suc-le-suc}
+use Prim.Native.Nat.{ℕ, zero, suc, _+_, _*_, _≤_, _<_}
 use native.Mathlib.Omega.{arith}
 use lib.Dec.{leb}
 use lib.ListN.{length, getD}
@@ -14,19 +14,14 @@ use Rattle.rules.specs.Lists.{Each}
 use Rattle.rules.specs.Lines as Rules
 use Rattle.rules.specs.Sound.{Known}
 use Rattle.rules.proofs.ListLaws.{each-at}
-use Rattle.words.specs.Words.{tab, Says}
-use Rattle.words.proofs.Tab.{getD-tab, length-tab}
-use Rattle.place.specs.Items.{itemOf, itemIn, itemsIn}
-use Rattle.place.proofs.Items.{items-length}
+use Rattle.words.specs.Words.{Says}
+use Rattle.place.specs.Items.{itemOf, itemsIn}
+use Rattle.place.proofs.Items.{items-length, items-at, items-each}
 use Rattle.lines.specs.declared.Line.{Line}
 use Rattle.lines.specs.declared.Line.the-variants as Line
 use Rattle.lines.specs.Line.{lineOf}
 use Rattle.lines.specs.Area.{headLine, itemWords, printCount, connOf}
 use Rattle.lines.specs.AreaSound.{LineFits, AreaSound}
-
-each-tab : {A : Type 0} (P : A → Type 0) (n : ℕ) (f : ℕ → A) → ((i : ℕ) → i < n → P (f i)) → Each P (tab n f)
-each-tab P zero f h = tt
-each-tab P (suc n) f h = (h 0 (suc-le-suc zero-le), each-tab P n (λ i. f (suc i)) (λ i l. h (suc i) (suc-le-suc l)))
 
 -- an item's token is known just where its kind word is at most 2
 known-of : (k a b m : ℕ) → k ≤ 2 → Known (itemOf k a b m)
@@ -39,14 +34,12 @@ of-known (suc t) a b m h = omega arith
 
 module _ (n : ℕ) (w : List ℕ) where
   pub all-known : ((i : ℕ) → i < n → getD w (4 * i) 0 ≤ 2) → Each Known (itemsIn n w)
-  unfolding itemsIn
-  all-known h = each-tab Known n (itemIn w) (λ i l. known-of (getD w (4 * i) 0) _ _ _ (h i l))
+  all-known h = items-each Known n w (λ i l. known-of (getD w (4 * i) 0) _ _ _ (h i l))
 
   pub known-kind : Each Known (itemsIn n w) → (i : ℕ) → i < n → getD w (4 * i) 0 ≤ 2
-  unfolding itemsIn
   known-kind e i l =
-      let k : Known (getD (tab n (itemIn w)) i (Item.Snapshot 0 0)) = each-at Known (tab n (itemIn w)) i (Item.Snapshot 0 0) (let z = length-tab n (itemIn w) in omega arith) e in
-      of-known (getD w (4 * i) 0) _ _ _ (rw (getD-tab n (itemIn w) i (Item.Snapshot 0 0) l) at k)
+      let k = each-at Known (itemsIn n w) i (Item.Snapshot 0 0) (let z = items-length n w in omega arith) e in
+      of-known (getD w (4 * i) 0) _ _ _ (rw (items-at n w i (Item.Snapshot 0 0) l) at k)
 
 pub leb-says : (m n : ℕ) → Says (leb m n) (m ≤ n)
 leb-says m n = says (leb m n) (m ≤ n) (λ e. leb-true e) (λ e h. let k : n < m = leb-false e in omega arith)

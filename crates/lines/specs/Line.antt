@@ -1,17 +1,30 @@
--- The reading of a line by value: its items are the first of its item area.
+-- The reading of a line by value: its items are the first of its item area. What its steps make of a line.
+use mathlib.Core.Path.{_≡_}
 use mathlib.Core.List.{List, [], _∷_, _++_}
-use mathlib.Core.Bool.{Bool, true, false, cond}
-use Prim.Native.Nat.{ℕ, suc, _<_}
+use mathlib.Core.Option.{Option, none, some}
+use mathlib.Core.Bool.{Bool, false, not, _&&_, cond}
+use Prim.Native.Nat.{ℕ, suc, _+_, _-_}
 use lib.Dec.{leb, ltb}
+use lib.ListN.{length, getD}
 use Rattle.rules.specs.declared.Item.{Item}
+use Rattle.rules.specs.declared.Item.the-variants as Item
 use Rattle.rules.specs.declared.Stamp.the-variants as Stamp
-use Rattle.rules.specs.Quantities.{age, alignTimeout, maxNumber}
+use Rattle.rules.specs.Lists.{any}
+use Rattle.rules.specs.Quantities.{Key, noKey, same, age, stamped, alignTimeout, maxNumber}
 use Rattle.rules.specs.Lines as Rules
-use Rattle.rules.specs.Calls.{apply, duplicate, ignored, diverged, failed, dueFor, dueEnds}
-use Rattle.rules.specs.Answers.{Said, word}
+use Rattle.rules.specs.Lines.{itemsOf, snapshotOf}
+use Rattle.rules.specs.Calls.{apply, duplicate, held, ignored, diverged, failed, dueFor, dueEnds}
+use Rattle.rules.specs.Answers.{Said, number, word, ofStep}
+use Rattle.log.specs.Answers.{quietStamp}
 use Rattle.place.specs.Items.{itemsIn}
 use Rattle.lines.specs.declared.Line.{Line}
 use Rattle.lines.specs.declared.Line.the-variants as Line
+use Rattle.lines.specs.declared.Stepped.{Stepped}
+use Rattle.lines.specs.declared.Aging.{Aging}
+use Rattle.lines.specs.declared.Aging.the-variants as Aging
+use Rattle.lines.specs.declared.Aged.{Aged}
+use Rattle.lines.specs.declared.Claim.{Claim}
+use Rattle.lines.specs.declared.Claim.the-variants as Claim
 
 abbrev pub lineOf : Line → List ℕ → Rules.Line
 lineOf (Line.Waiting n since) w = Rules.Waiting (itemsIn n w) since
@@ -25,6 +38,11 @@ heldOf (Line.Waiting n since) = n
 heldOf (Line.Pending n at since) = n
 heldOf (Line.InLine next a b) = 0
 heldOf Line.Failed = 0
+
+-- the value r stands for the line l: it counts l's items, and over words that hold them it is l
+pub record Stands (r : Line) (l : Rules.Line) : Type 0 where
+  pub held : heldOf r ≡ length (itemsOf l)
+  pub reads : (v : List ℕ) → itemsIn (heldOf r) v ≡ itemsOf l → lineOf r v ≡ l
 
 -- a line with one item more
 abbrev pub holding : Item → Rules.Line → Rules.Line
@@ -40,34 +58,68 @@ complete now (Rules.Pending is at since) = Rules.Pending is at since
 complete now (Rules.InLine n a b) = Rules.InLine n a b
 complete now Rules.Failed = Rules.Failed
 
--- not in line, and its since-age has come to 10,000
-abbrev pub timedOut : ℕ → Rules.Line → Bool
-timedOut now (Rules.Waiting is since) = leb alignTimeout (age now since)
-timedOut now (Rules.Pending is at since) = leb alignTimeout (age now since)
-timedOut now (Rules.InLine n a b) = false
-timedOut now Rules.Failed = false
+-- a snapshot of each token among the items; in line after a take-over that put these items out
+abbrev pub holdsBoth : List Item → Bool
+holdsBoth is = any (snapshotOf 0) is && any (snapshotOf 1) is
 
--- a snapshot of token t to a line in line: due ends and it is put out, or it is ignored
-abbrev pub snapshotStep : ℕ → Rules.Line → Rules.Line × Said
-snapshotStep t (Rules.InLine n a b) = cond (dueFor t a b) (dueEnds t n a b, word apply 1 0) (Rules.InLine n a b, word ignored 0 0)
-snapshotStep t (Rules.Waiting is since) = (Rules.Waiting is since, word ignored 0 0)
-snapshotStep t (Rules.Pending is at since) = (Rules.Pending is at since, word ignored 0 0)
-snapshotStep t Rules.Failed = (Rules.Failed, word ignored 0 0)
+abbrev pub takenOver : ℕ → List Item → Rules.Line
+takenOver next is = Rules.InLine next (not (any (snapshotOf 0) is)) (not (any (snapshotOf 1) is))
 
--- a book event to a line in line, over a log from base to e; same: the log has its key at next
-abbrev pub eventStep : ℕ → ℕ → Bool → Rules.Line → Rules.Line × Said
-eventStep base e same (Rules.InLine n a b) =
+-- a pending line's snapshot is quiet
+abbrev pub snapshotQuiet : ℕ → Rules.Line → Bool
+snapshotQuiet now (Rules.Waiting is since) = false
+snapshotQuiet now (Rules.Pending is at since) = quietStamp at now false
+snapshotQuiet now (Rules.InLine n a b) = false
+snapshotQuiet now Rules.Failed = false
+
+-- a claim of the code, as the rules write it
+abbrev pub claimOf : Claim → Option (ℕ × ℕ)
+claimOf Claim.Nothing = none
+claimOf (Claim.Of pending time) = some (pending, time)
+
+-- a step's line and answer are the rules'
+pub record Steps (r : Stepped) (x : Rules.Line × Said) : Type 0 where
+  pub line : Stands (r .line) (x .0)
+  pub answer : ofStep (r .step) ≡ x .1
+
+-- an event to a line in line at a number that the log has; alike: with this key there
+abbrev pub copyStep : Bool → ℕ → Bool → Bool → Rules.Line × Said
+copyStep alike n a b = cond alike (Rules.InLine (suc n) a b, word duplicate 0 0) (Rules.InLine n a b, word diverged 0 0)
+
+-- a book event of key k to a line, over a log of keys ks from base, with held limit h: one that is not in line holds it, or fails
+-- where it holds h items or more; one in line steps on, where a number is left
+abbrev pub eventStep : (h base : ℕ) (ks : List Key) → Key → ℕ → Rules.Line → Rules.Line × Said
+eventStep h base ks k msg (Rules.Waiting is since) =
+    cond (leb h (length is)) (Rules.Failed, word failed 0 0) (Rules.Waiting (is ++ (Item.Event k msg ∷ [])) since, word held 0 0)
+eventStep h base ks k msg (Rules.Pending is at since) =
+    cond (leb h (length is)) (Rules.Failed, word failed 0 0) (Rules.Pending (is ++ (Item.Event k msg ∷ [])) at since, word held 0 0)
+eventStep h base ks k msg (Rules.InLine n a b) =
     cond (ltb n base) (Rules.Failed, word failed 0 0)
-    (cond (ltb n e)
-    (cond same (Rules.InLine (suc n) a b, word duplicate 0 0) (Rules.InLine n a b, word diverged 0 0))
-    (Rules.InLine (suc n) a b, word apply 1 0))
-eventStep base e same (Rules.Waiting is since) = (Rules.Waiting is since, word ignored 0 0)
-eventStep base e same (Rules.Pending is at since) = (Rules.Pending is at since, word ignored 0 0)
-eventStep base e same Rules.Failed = (Rules.Failed, word ignored 0 0)
+    (cond (ltb n (base + length ks)) (copyStep (same (getD ks (n - base) noKey) k) n a b)
+    (cond (leb maxNumber n) (Rules.InLine n a b, number 9) (Rules.InLine (suc n) a b, word apply 1 0)))
+eventStep h base ks k msg Rules.Failed = (Rules.Failed, word ignored 0 0)
 
--- a line's next number can rise
-abbrev pub Rises : Line → Type 0
-Rises (Line.Waiting n since) = Unit {0}
-Rises (Line.Pending n at since) = Unit {0}
-Rises (Line.InLine next a b) = next < maxNumber
-Rises Line.Failed = Unit {0}
+-- a snapshot of token t: due ends and it is put out; a Waiting line holds it, while its area of h + 8 items has room; else ignored
+abbrev pub snapshotStep : (h t msg : ℕ) → Rules.Line → Rules.Line × Said
+snapshotStep h t msg (Rules.Waiting is since) =
+    cond (leb (h + 8) (length is)) (Rules.Waiting is since, number 6) (Rules.Waiting (is ++ (Item.Snapshot t msg ∷ [])) since, word held 0 0)
+snapshotStep h t msg (Rules.Pending is at since) = (Rules.Pending is at since, word ignored 0 0)
+snapshotStep h t msg (Rules.InLine n a b) = cond (dueFor t a b) (dueEnds t n a b, word apply 1 0) (Rules.InLine n a b, word ignored 0 0)
+snapshotStep h t msg Rules.Failed = (Rules.Failed, word ignored 0 0)
+
+-- what time makes of a line: it stays, it fails (in line below base; not in line for 10,000 and no snapshot time), or the market
+-- is rebuilt from it
+abbrev pub timeStep : (base now : ℕ) → Rules.Line → Rules.Line × Aging
+timeStep base now (Rules.Waiting is since) =
+    cond (leb alignTimeout (age now since)) (Rules.Failed, Aging.Fails) (Rules.Waiting is since, Aging.Stays)
+timeStep base now (Rules.Pending is at since) =
+    cond (leb alignTimeout (age now since))
+    (stamped (Rules.Failed, Aging.Fails) (λ t. (Rules.Pending is at since, Aging.Rebuilds)) at)
+    (Rules.Pending is at since, Aging.Stays)
+timeStep base now (Rules.InLine n a b) = cond (ltb n base) (Rules.Failed, Aging.Fails) (Rules.InLine n a b, Aging.Stays)
+timeStep base now Rules.Failed = (Rules.Failed, Aging.Stays)
+
+-- a line as time left it, and what time made of it, are the rules'
+pub record Ages (r : Aged) (x : Rules.Line × Aging) : Type 0 where
+  pub line : Stands (r .line) (x .0)
+  pub aging : r .aging ≡ x .1

@@ -4,17 +4,26 @@ use rules::EventKey;
 use rules::Item;
 use rules::Stamp;
 ghost use mathlib.Core.Path.{_≡_};
-ghost use mathlib.Core.List.{List, [], _∷_, _++_};
+ghost use mathlib.Core.List.{[], _∷_, _++_};
 ghost use Prim.Native.Nat.{ℕ, _+_, _*_, _≤_, _<_, _^_};
 ghost use lib.ListN.{length, getD, set};
 ghost use Rattle.rules.specs.Quantities.{same, key};
+ghost use Rattle.rules.specs.Lines.{waiting};
 ghost use Rattle.rules.specs.Lists.{any, Each};
 ghost use Rattle.rules.specs.Sound.{Known};
-ghost use Rattle.words.specs.Words.{part, back, Says};
+ghost use Rattle.words.specs.Words.{back, Says};
 ghost use Rattle.place.specs.Items.{kindOf, itemsIn};
 ghost use Rattle.lines.specs.Line.{lineOf, heldOf, holding};
-ghost use Rattle.lines.specs.Area.{flagOf, lineIn, lineWords, headLine, printIn, printsIn, printCount, noPrint, connOf, withLine, withHeld, Fit};
+ghost use Rattle.lines.specs.Area.{flagOf, lineIn, lineWords, headLine, printIn, printsIn, itemWords, printCount, noPrint, connOf, withLine, withHeld, Fit};
 ghost use Rattle.lines.specs.AreaSound.{LineFits, AreaSound};
+
+// An area's connection.
+pub fn conn(area: &[u64]) -> u64
+    requires { ⌜ 32 ≤ length (now area) ⌝ }
+    ensures { λ r. ⌜ ((h : ℕ) → r ≡ connOf h (now (area .entry)) .conn) ⌝ }
+{
+    area[0]
+}
 
 fn flag_of(b: bool) -> u64
     ensures { λ r. ⌜ r ≡ flagOf b ⌝ }
@@ -98,6 +107,15 @@ pub fn set_line(area: &mut [u64], line: Line)
     put_line(&mut area[1..9], line)
 }
 
+// The words of the items.
+pub fn items(area: &[u64], h: usize) -> &[u64]
+    requires { ⌜ 4 * h + 64 ≤ length (now area) ⌝ }
+    ensures { λ r. ⌜ now r ≡ itemWords h (now (area .entry)) ⌝ }
+{
+    let e = 4 * h + 64;
+    &area[32..e]
+}
+
 // Holds an item behind the others.
 pub fn hold_item(area: &mut [u64], h: usize, item: Item)
     requires { ⌜ (Fit h (now area)) × ((heldOf (headLine (now area)) < h + 8) × (kindOf item < 2 ^ 64)) ⌝ }
@@ -108,6 +126,14 @@ pub fn hold_item(area: &mut [u64], h: usize, item: Item)
     let e = 4 * h + 64;
     place::put_item(&mut area[32..e], held, item);
     set_line(area, line.more());
+}
+
+// How many prints the line holds.
+pub fn prints_held(area: &[u64]) -> usize
+    requires { ⌜ 32 ≤ length (now area) ⌝ }
+    ensures { λ r. ⌜ r ≡ printCount (now (area .entry)) ⌝ }
+{
+    area[9] as usize
 }
 
 // Whether the i-th print has this key.
@@ -207,6 +233,16 @@ pub fn drop_prints(area: &mut [u64], h: usize)
     requires { ⌜ length (now area) ≡ 7 * h + 64 ⌝ }
     ensures { λ r. ⌜ connOf h (now (area .exit)) ≡ withHeld [] (connOf h (now (area .entry))) ⌝ }
 {
+    set_prints(area, 0);
+}
+
+// Writes an area anew: Waiting, empty, since t.
+pub fn put_waiting(area: &mut [u64], conn: u64, t: u64)
+    requires { ⌜ 32 ≤ length (now area) ⌝ }
+    ensures { λ r. ⌜ ((h : ℕ) → connOf h (now (area .exit)) ≡ waiting conn t) ⌝ }
+{
+    area[0] = conn;
+    set_line(area, Line::waiting(t));
     set_prints(area, 0);
 }
 

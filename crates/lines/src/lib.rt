@@ -1,25 +1,23 @@
 // A connection's line, by value: its methods take it and hand it back. Its items lie in a lent area.
 pub mod area;
+pub mod steps;
 
 use rules::Stamp;
 use rules::Step;
 ghost use mathlib.Core.Path.{_≡_};
+ghost use mathlib.Core.Bool.{false};
 ghost use mathlib.Core.List.{List, [], _∷_, _++_};
-ghost use Prim.Native.Nat.{ℕ, _+_, _<_};
+ghost use Prim.Native.Nat.{ℕ, _+_, _*_, _≤_, _<_};
 ghost use lib.ListN.{length};
 ghost use Rattle.rules.specs.declared.Item.{Item};
 ghost use Rattle.rules.specs.Quantities.{maxNumber};
-ghost use Rattle.place.specs.Items.{itemsIn};
 ghost use Rattle.rules.specs.Lines as Rules;
 ghost use Rattle.rules.specs.Lines.{itemsOf, isPending, isInLine, isFailed, isDue};
-ghost use Rattle.rules.specs.Calls.{pendingAnew};
+ghost use Rattle.rules.specs.Calls.{claim, pendingAnew};
 ghost use Rattle.rules.specs.Tick.{outOfLine};
 ghost use Rattle.rules.specs.Refusals.{canServe};
-ghost use Rattle.rules.specs.Answers.{ofStep};
-ghost use Rattle.lines.specs.Line.{lineOf, heldOf, holding, complete, timedOut, snapshotStep, eventStep, Rises};
-
-// A line that has not entered line by this age leaves the market's lines.
-const ALIGN_TIMEOUT: u64 = 10_000;
+ghost use Rattle.place.specs.Items.{itemsIn};
+ghost use Rattle.lines.specs.Line.{lineOf, heldOf, holding, complete, holdsBoth, takenOver, snapshotQuiet, claimOf};
 
 pub enum Line {
     // Subscribed; how many items came so far.
@@ -47,6 +45,25 @@ pub enum Line {
 pub struct Stepped {
     pub line: Line,
     pub step: Step,
+}
+
+// What time makes of a line; or that the market is rebuilt from it.
+pub enum Aging {
+    Stays,
+    Fails,
+    Rebuilds,
+}
+
+// A line as time left it.
+pub struct Aged {
+    pub line: Line,
+    pub aging: Aging,
+}
+
+// A line's claim to be the source of a new book: pending with a snapshot before waiting with one, then the later time.
+pub enum Claim {
+    Nothing,
+    Of { pending: u64, time: u64 },
 }
 
 impl Line {
@@ -209,131 +226,77 @@ impl Line {
         }
     }
 
-    // Not in line for too long.
-    pub fn timed_out(self, t: u64) -> bool
-        ensures { λ r. ⌜ ((w : List ℕ) → r ≡ timedOut t (lineOf self w)) ⌝ }
+    // Whether its snapshot is quiet at t.
+    pub fn quiet(self, t: u64) -> bool
+        ensures { λ r. ⌜ ((w : List ℕ) → r ≡ snapshotQuiet t (lineOf self w)) ⌝ }
     {
         match self {
-            Line::Waiting { since, .. } => ALIGN_TIMEOUT <= log::age(t, since),
-            Line::Pending { since, .. } => ALIGN_TIMEOUT <= log::age(t, since),
+            Line::Waiting { .. } => false,
+            Line::Pending { snapshot, .. } => log::quiet(snapshot, t, false),
             Line::InLine { .. } => false,
             Line::Failed => false,
         }
     }
 
-    // A snapshot of a token: put out if a line in line was due it.
-    pub fn snapshot(self, token: u64) -> Stepped
-        ensures { λ r. ⌜ ((w : List ℕ) → (lineOf (r .line) w, ofStep (r .step)) ≡ snapshotStep token (lineOf self w)) ⌝ }
+    // Its claim to be the source of a new book.
+    pub fn claim(self, items: &[u64]) -> Claim
+        requires { ⌜ 4 * heldOf self ≤ length (now items) ⌝ }
+        ensures { λ r. ⌜ claimOf r ≡ claim (lineOf self (now (items .entry))) ⌝ }
     {
         match self {
-            Line::Waiting { .. } => Stepped {
-                line: self,
-                step: Step::Ignored,
+            Line::Waiting { items: n, since } => {
+                if place::holds_snapshot(items, n) {
+                    return Claim::Of {
+                        pending: 0,
+                        time: since,
+                    };
+                }
+                Claim::Nothing
+            }
+            Line::Pending { snapshot, .. } => match snapshot {
+                Stamp::Never => Claim::Nothing,
+                Stamp::At(time) => Claim::Of { pending: 1, time },
             },
-            Line::Pending { .. } => Stepped {
-                line: self,
-                step: Step::Ignored,
-            },
-            Line::InLine { next, due0, due1 } => due_ends(next, due0, due1, token),
-            Line::Failed => Stepped {
-                line: self,
-                step: Step::Ignored,
-            },
+            Line::InLine { .. } => Claim::Nothing,
+            Line::Failed => Claim::Nothing,
         }
     }
 
-    // A book event to a line in line, over a log from base to end; same: the log has its key at the line's next number.
-    pub fn event(self, base: u64, end: u64, same: bool) -> Stepped
-        requires { ⌜ Rises self ⌝ }
-        ensures { λ r. ⌜ ((w : List ℕ) → (lineOf (r .line) w, ofStep (r .step)) ≡ eventStep base end same (lineOf self w)) ⌝ }
+    // Whether it holds a snapshot of each token.
+    pub fn holds_snapshots(self, items: &[u64]) -> bool
+        requires { ⌜ 4 * heldOf self ≤ length (now items) ⌝ }
+        ensures { λ r. ⌜ r ≡ holdsBoth (itemsOf (lineOf self (now (items .entry)))) ⌝ }
     {
-        match self {
-            Line::Waiting { .. } => Stepped {
-                line: self,
-                step: Step::Ignored,
-            },
-            Line::Pending { .. } => Stepped {
-                line: self,
-                step: Step::Ignored,
-            },
-            Line::InLine { next, due0, due1 } => advance(next, due0, due1, base, end, same),
-            Line::Failed => Stepped {
-                line: self,
-                step: Step::Ignored,
-            },
+        let n = self.held();
+        if place::holds_token(items, n, 0) {
+            return place::holds_token(items, n, 1);
         }
+        false
     }
-}
 
-// The snapshot of a token to a line in line.
-fn due_ends(next: u64, due0: bool, due1: bool, token: u64) -> Stepped
-    ensures { λ r. ⌜ ((w : List ℕ) → (lineOf (r .line) w, ofStep (r .step)) ≡ snapshotStep token (Rules.InLine next due0 due1)) ⌝ }
-{
-    if token == 0 {
-        if due0 {
-            return Stepped {
-                line: Line::InLine {
-                    next,
-                    due0: false,
-                    due1,
-                },
-                step: Step::Apply(1),
-            };
+    // In line after a take-over: due for each token that it holds no snapshot of.
+    pub fn taken_over(self, items: &[u64], next: u64) -> Line
+        requires { ⌜ 4 * heldOf self ≤ length (now items) ⌝ }
+        ensures { λ r. ⌜ ((w : List ℕ) → lineOf r w ≡ takenOver next (itemsOf (lineOf self (now (items .entry))))) ⌝ }
+    {
+        let n = self.held();
+        let has0 = place::holds_token(items, n, 0);
+        let has1 = place::holds_token(items, n, 1);
+        Line::InLine {
+            next,
+            due0: !has0,
+            due1: !has1,
         }
-        return Stepped {
-            line: Line::InLine { next, due0, due1 },
-            step: Step::Ignored,
-        };
     }
-    if due1 {
-        return Stepped {
-            line: Line::InLine {
-                next,
-                due0,
-                due1: false,
-            },
-            step: Step::Apply(1),
-        };
-    }
-    Stepped {
-        line: Line::InLine { next, due0, due1 },
-        step: Step::Ignored,
-    }
-}
 
-// The book event to a line in line.
-fn advance(next: u64, due0: bool, due1: bool, base: u64, end: u64, same: bool) -> Stepped
-    requires { ⌜ next < maxNumber ⌝ }
-    ensures { λ r. ⌜ ((w : List ℕ) → (lineOf (r .line) w, ofStep (r .step)) ≡ eventStep base end same (Rules.InLine next due0 due1)) ⌝ }
-{
-    if next < base {
-        return Stepped {
-            line: Line::Failed,
-            step: Step::Failed,
-        };
-    }
-    if next < end {
-        if same {
-            return Stepped {
-                line: Line::InLine {
-                    next: next + 1,
-                    due0,
-                    due1,
-                },
-                step: Step::Duplicate,
-            };
+    // In line after a line-up: due nothing.
+    pub fn lined_up(next: u64) -> Line
+        ensures { λ r. ⌜ ((w : List ℕ) → lineOf r w ≡ Rules.InLine next false false) ⌝ }
+    {
+        Line::InLine {
+            next,
+            due0: false,
+            due1: false,
         }
-        return Stepped {
-            line: Line::InLine { next, due0, due1 },
-            step: Step::Diverged,
-        };
-    }
-    Stepped {
-        line: Line::InLine {
-            next: next + 1,
-            due0,
-            due1,
-        },
-        step: Step::Apply(1),
     }
 }

@@ -1,7 +1,10 @@
 -- The answers that stand for what the rules say of a log.
+use mathlib.Core.Bool.{Bool}
 use mathlib.Core.Option.{Option, none, some}
 use Prim.Native.Nat.{ℕ}
-use Rattle.rules.specs.Quantities.{Key}
+use lib.Dec.{leb}
+use Rattle.rules.specs.declared.Stamp.{Stamp}
+use Rattle.rules.specs.Quantities.{Key, age, stamped, quietAfter}
 use Rattle.log.specs.declared.KeyAt.{KeyAt}
 use Rattle.log.specs.declared.KeyAt.the-variants as KeyAt
 use Rattle.log.specs.declared.Matched.{Matched}
@@ -14,3 +17,7 @@ keyAnswer (some k) = KeyAt.Key k
 abbrev pub matchAnswer : Option ℕ → Matched
 matchAnswer none = Matched.Differs
 matchAnswer (some n) = Matched.Fits n
+
+-- quiet by a stamp, or by `never` where it has not come
+abbrev pub quietStamp : Stamp → ℕ → Bool → Bool
+quietStamp at now never = stamped never (λ t. leb quietAfter (age now t)) at

@@ -7,12 +7,14 @@ ghost use Rattle.rules.specs.Quantities.{same, age};
 ghost use Rattle.rules.specs.Log.{keys, keyAt, push, clear, stamp, prune, old};
 ghost use Rattle.rules.specs.Place.{fits};
 ghost use Rattle.log.specs.Log.{keyIn, keysIn, logOf, Fit, put};
-ghost use Rattle.log.specs.Answers.{keyAnswer, matchAnswer};
+ghost use Rattle.log.specs.Answers.{keyAnswer, matchAnswer, quietStamp};
 use rules::EventKey;
 use rules::Stamp;
 
 // An entry older than this leaves the log.
 const LOG_KEEP: u64 = 10_000;
+// Quiet from this age on.
+const QUIET: u64 = 1_000;
 
 // The number of the first entry, how many entries there are, and last-applied.
 pub struct Head {
@@ -120,6 +122,16 @@ pub fn age(t: u64, stamp: u64) -> u64
     ensures { λ r. ⌜ r ≡ age t stamp ⌝ }
 {
     if stamp < t { t - stamp } else { 0 }
+}
+
+// Whether a stamp is quiet at t: its age has come to QUIET; `never` where it has not come.
+pub fn quiet(stamp: Stamp, t: u64, never: bool) -> bool
+    ensures { λ r. ⌜ r ≡ quietStamp stamp t never ⌝ }
+{
+    match stamp {
+        Stamp::Never => never,
+        Stamp::At(u) => QUIET <= age(t, u),
+    }
 }
 
 // How many entries at the front are too old to stay.

@@ -6,6 +6,7 @@ use native.Mathlib.Omega.{arith}
 use lib.ListN.{length}
 use Rattle.rules.specs.declared.Applied.{Applied}
 use Rattle.rules.specs.declared.Expired.{Expired}
+use Rattle.rules.specs.declared.Limits.{Limits}
 use Rattle.rules.specs.Lines.{Market}
 use Rattle.rules.specs.Entering.{Work, begin}
 use Rattle.rules.specs.Calls.{Answer, Outcome, refused, did, just}
@@ -17,7 +18,8 @@ use Rattle.rules.proofs.SoundMoves.{SoundW}
 use Rattle.rules.proofs.SoundCalls.{roomFor, Safe, begin-sound}
 use Rattle.store.specs.Store.{limitsOf, marketOf, Sound}
 use Rattle.store.specs.Moves.{Moved}
-use Rattle.store.proofs.FrameLaws.{moved-sound}
+use Rattle.store.proofs.MarketLaws.{market-limits}
+use Rattle.store.proofs.FrameLaws.{moved-limits, moved-sound}
 use Rattle.output.specs.Output.{recordsWords, reportsWords, over}
 use Rattle.moves.specs.Does.{Goes, Ready}
 use Rattle.market.specs.Lent.{Lent, lent, Answers, Roomy}
@@ -36,14 +38,14 @@ ready-at r l g s =
     record { sound = moved-sound (r .sound) (g .moved) (s .sound); room = omega arith }
 
 pub ready-begin : {w v : List ℕ} → Roomy w v → Ready w v 0
-unfolding marketOf
-ready-begin {w} r = let s = begin-sound (marketOf w) (r .sound .market) in let a = s .spent in let h = r .room in record { sound = r .sound; room = omega arith }
+ready-begin {w} r =
+    let s = subst (λ (l : Limits). SoundW (roomFor l) (begin (marketOf w))) (market-limits w) (begin-sound (marketOf w) (r .sound .market)) in
+    let a = s .spent in let h = r .room in record { sound = r .sound; room = omega arith }
 
 -- a move on the store alone leaves a roomy store, if the market is sound
 pub roomy-then : {w v w₁ : List ℕ} {m : Market} → Roomy w v → Moved w w₁ m → m .limits ≡ limitsOf w → Rules.Sound m → Roomy w₁ v
-unfolding marketOf
 roomy-then {w} {v} {w₁} r d e s =
-    let q : limitsOf w₁ ≡ limitsOf w = ap (λ (x : Market). x .limits) (d .market) ∙ e in
+    let q : limitsOf w₁ ≡ limitsOf w = moved-limits d ∙ e in
     record { sound = moved-sound (r .sound) d s; room = subst (λ l. 7 * roomNeeded l ≤ length v) (sym q) (r .room) }
 
 -- nothing put out
@@ -56,6 +58,10 @@ goes-just d = record { more = []; out = refl; moved = d; words = refl; count = r
 -- a refusal leaves all that was lent
 pub refuses : {o : Outcome} (n : ℕ) (l : Lent) → o ≡ refused n → Answers o l (number n) l
 refuses n l e = rw e (record { said = refl; left = refl })
+
+-- what is safe by the market's limits is by the words'
+pub safe-as : (w : List ℕ) (o : Outcome) → Safe (marketOf w .limits) o → Safe (limitsOf w) o
+safe-as w o s = subst (λ (l : Limits). Safe l o) (market-limits w) s
 
 -- what was put out from nothing on is the whole of a call's records
 pub answered : {w v w₁ v₁ : List ℕ} {n₁ : ℕ} {k : Work} {o : Outcome} (a : Answer) → Sound w → length w₁ ≡ length w → Goes w v 0 w₁ v₁ n₁ (begin (marketOf w)) k

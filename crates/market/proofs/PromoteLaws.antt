@@ -3,16 +3,15 @@ use mathlib.Core.Path.{_≡_, refl, sym, ap, _∙_, subst}
 use mathlib.Core.List.{List, []}
 use mathlib.Core.Option.{Option, none, some}
 use mathlib.Core.Bool.{Bool, true, false, not, _||_, cond}
-use Prim.Native.Nat.{ℕ, suc, _+_, _-_, _*_, _≤_, _<_}
+use Prim.Native.Nat.{ℕ, suc, _+_, _-_, _≤_, _<_}
 use native.Mathlib.Omega.{arith}
 use lib.Dec.{ltb, eqb}
 use lib.ListN.{length, getD, drop}
 use borrow.Author.Tests.{eq-eqb, ne-eqb, le-ltb}
-use Rattle.rules.specs.declared.Stamp.the-variants as Stamp
-use Rattle.rules.specs.Lists.{any, keep, maybe}
+use Rattle.rules.specs.Lists.{keep, maybe}
 use Rattle.rules.specs.Log.{clear}
 use Rattle.rules.specs.Lines as Rules
-use Rattle.rules.specs.Lines.{Connection, Market, isSnapshot, isFailed, itemsOf, someone, connAt, withLog, withLines}
+use Rattle.rules.specs.Lines.{Connection, Market, isFailed, itemsOf, someone, connAt, withLog, withLines}
 use Rattle.rules.specs.Entering.{Work, begin, takeOver, sweep}
 use Rattle.rules.specs.Calls.{did, just, kept, gone, rebuild, claim, below, better, source, promote, dropConn}
 use Rattle.rules.specs.Refusals.{inLine}
@@ -21,24 +20,20 @@ use Rattle.rules.proofs.Tests.{none≢some}
 use Rattle.rules.proofs.CallsKept.{source-law}
 use Rattle.rules.proofs.SoundMoves.{takeOver-sound, events-le}
 use Rattle.rules.proofs.SoundCalls.{clear-sound, promote-safe, dropped-sound, drop-safe}
-use Rattle.lines.specs.declared.Line.{Line}
-use Rattle.lines.specs.declared.Line.the-variants as Line
-use Rattle.lines.specs.Line.{lineOf, heldOf}
-use Rattle.lines.specs.Area.{headLine}
-use Rattle.store.specs.Store.{lineCount, lineWordsAt, marketOf}
+use Rattle.lines.specs.declared.Claim.{Claim}
+use Rattle.lines.specs.Line.{claimOf}
+use Rattle.store.specs.Store.{lineCount, marketOf}
 use Rattle.store.specs.Moves.{Moved}
-use Rattle.store.specs.ConnMoves.{itemsAt, LineFits, NotFailed}
-use Rattle.store.proofs.ConnLaws.{lines-count, items-counted, line-words, lines-from, lines-end}
-use Rattle.place.specs.Items.{itemsIn}
-use Rattle.market.specs.declared.Claim.{Claim}
+use Rattle.store.specs.ConnMoves.{NotFailed}
+use Rattle.store.proofs.MarketLaws.{market-limits, lines-count}
+use Rattle.store.proofs.ConnLaws.{lines-from, lines-end}
 use Rattle.market.specs.declared.Source.{Source}
 use Rattle.market.specs.declared.Source.the-variants as Source
-use Rattle.market.specs.Claims.{claimOf, sourceOf}
+use Rattle.market.specs.Claims.{sourceOf}
 use Rattle.moves.specs.Does.{Does, Ready}
 use Rattle.market.specs.Lent.{lent, Answers, Roomy}
 use Rattle.moves.proofs.DoesLaws.{goes-then, moved-none, ready-then}
-use Rattle.moves.proofs.LiningReads.{items-words}
-use Rattle.market.proofs.AnswerLaws.{ready-begin, roomy-then, goes-just, answered, justly, answers-from}
+use Rattle.market.proofs.AnswerLaws.{ready-begin, roomy-then, goes-just, safe-as, answered, justly, answers-from}
 
 -- ---- claims
 
@@ -52,31 +47,11 @@ below-other a x b y e = rw (ne-eqb a b e) (go (ltb a b))
     go true = refl
     go false = refl
 
-module _ (w : List ℕ) (i : ℕ) (h : i < lineCount w) where
-  -- by the line that its words say
-  pub claim-said : (l : Line) → l ≡ headLine (lineWordsAt w i) → claim (lineOf l (itemsAt w i)) ≡ claim ((connAt i (marketOf w)) .line)
-  claim-said l e = ap (λ (x : Line). claim (lineOf x (itemsAt w i))) e ∙ ap claim (sym (line-words w i h))
-
-  module _ (n since : ℕ) (e : Line.Waiting n since ≡ headLine (lineWordsAt w i)) (is : List ℕ) (q : is ≡ itemsAt w i) where
-    waiting-said : cond (any isSnapshot (itemsIn n is)) (some (0, since)) none ≡ claim ((connAt i (marketOf w)) .line)
-    waiting-said = ap (λ (v : List ℕ). cond (any isSnapshot (itemsIn n v)) (some (0, since)) none) q ∙ claim-said (Line.Waiting n since) e
-
-    pub claim-held : (b : Bool) → b ≡ any isSnapshot (itemsIn n is) → b ≡ true → some (0, since) ≡ claim ((connAt i (marketOf w)) .line)
-    claim-held b p t = ap (λ (x : Bool). cond x (some (0, since)) none) (sym t ∙ p) ∙ waiting-said
-
-    pub claim-none : (b : Bool) → b ≡ any isSnapshot (itemsIn n is) → b ≡ false → none ≡ claim ((connAt i (marketOf w)) .line)
-    claim-none b p t = ap (λ (x : Bool). cond x (some (0, since)) none) (sym t ∙ p) ∙ waiting-said
-
-pub claim-ready : (w : List ℕ) (i : ℕ) → LineFits w i → (n since : ℕ) → Line.Waiting n since ≡ headLine (lineWordsAt w i) → (is : List ℕ) → is ≡ itemsAt w i → 4 * n ≤ length is
-claim-ready w i f n since e is q =
-    let c : n ≡ length (itemsOf ((connAt i (marketOf w)) .line)) = ap heldOf e ∙ items-counted w i (f .at .here) in
-    rw q (items-words w i f n c)
-
 -- ---- the source, from the last line back
 
-pub source-end : (w : List ℕ) → none ≡ source (lineCount w) (drop (lineCount w) (marketOf w .lines))
+pub source-end : (w : List ℕ) (n : ℕ) → n ≡ lineCount w → none ≡ source n (drop n (marketOf w .lines))
 unfolding source
-source-end w = rw (lines-end w (lineCount w) (omega arith)) refl
+source-end w n e = rw (lines-end w n (omega arith)) refl
 
 pub source-step : (w : List ℕ) (i : ℕ) → 0 < i → i ≤ lineCount w → (c : Claim) (b r : Source) → claimOf c ≡ claim ((connAt (i - 1) (marketOf w)) .line)
     → sourceOf b ≡ source i (drop i (marketOf w .lines)) → sourceOf r ≡ better (i - 1) (claimOf c) (sourceOf b)
@@ -90,9 +65,9 @@ source-step w i h l c b r p q e =
 -- ---- promote
 
 pub promote-kept : (w v : List ℕ) (t : ℕ) → Roomy w v → someone (marketOf w .lines) ≡ true → Answers (promote t (marketOf w)) (lent w v) (word kept 0 0) (lent w v)
-unfolding promote marketOf
+unfolding promote
 promote-kept w v t r e =
-    justly kept (r .sound) refl (moved-none (r .sound .sized)) (rw e refl) (promote-safe t (marketOf w) (r .sound .market))
+    justly kept (r .sound) refl (moved-none (r .sound .sized)) (rw e refl) (safe-as w (promote t (marketOf w)) (promote-safe t (marketOf w) (r .sound .market)))
 
 -- a claim is of a line that has not failed
 claimed : (l : Rules.Line) (x : ℕ × ℕ) → claim l ≡ some x → isFailed l ≡ false
@@ -107,12 +82,11 @@ module _ {w v w₁ : List ℕ} (t : ℕ) (r : Roomy w v) (f : someone (marketOf 
   cleared = withLog (clear (marketOf w .log)) (marketOf w)
 
   roomy₁ : Roomy w₁ v
-  unfolding marketOf
-  roomy₁ = roomy-then r d refl (clear-sound (marketOf w) (r .sound .market))
+  roomy₁ = roomy-then r d (market-limits w) (clear-sound (marketOf w) (r .sound .market))
 
   pub promote-gone : length w₁ ≡ length w → source 0 (marketOf w .lines) ≡ none → Answers (promote t (marketOf w)) (lent w v) (word gone 0 0) (lent w₁ v)
-  unfolding promote marketOf
-  promote-gone l e = justly gone (r .sound) l d (rw (f, e) refl) (promote-safe t (marketOf w) (r .sound .market))
+  unfolding promote
+  promote-gone l e = justly gone (r .sound) l d (rw (f, e) refl) (safe-as w (promote t (marketOf w)) (promote-safe t (marketOf w) (r .sound .market)))
 
   module _ (i : ℕ) (x : ℕ × ℕ) (e : source 0 (marketOf w .lines) ≡ some (i, x)) where
     lines₁ : marketOf w₁ .lines ≡ marketOf w .lines
@@ -151,7 +125,7 @@ module _ {w v w₁ : List ℕ} (t : ℕ) (r : Roomy w v) (f : someone (marketOf 
 
     pub promote-done : {w₂ v₂ w₃ v₃ : List ℕ} {n₂ n₃ : ℕ} → length w₃ ≡ length w → Does (takeOver i (itemsOf ((connAt i (marketOf w₁)) .line)) t) w₁ v 0 w₂ v₂ n₂ → Does (sweep t) w₂ v₂ n₂ w₃ v₃ n₃
         → Answers (promote t (marketOf w)) (lent w v) (word rebuild n₃ 0) (lent w₃ v₃)
-    unfolding promote marketOf
+    unfolding promote
     promote-done l g h =
         let m₁ = cleared in
         let a = goes-just {v = v} d in
@@ -159,18 +133,17 @@ module _ {w v w₁ : List ℕ} (t : ℕ) (r : Roomy w v) (f : someone (marketOf 
         let k = takeOver i (itemsOf ((connAt i (marketOf w₁)) .line)) t (begin m₁) in
         let c = h k (sym (b .moved .market)) in
         let q : promote t (marketOf w) ≡ did rebuild [] (sweep t k) = rw (f, e) (ap (λ (is : List _). did rebuild [] (sweep t (takeOver i is t (begin m₁)))) (sym items₁)) in
-        answered rebuild (r .sound) l (goes-then (omega arith) a (goes-then (omega arith) b c)) q (promote-safe t (marketOf w) (r .sound .market))
+        answered rebuild (r .sound) l (goes-then (omega arith) a (goes-then (omega arith) b c)) q (safe-as w (promote t (marketOf w)) (promote-safe t (marketOf w) (r .sound .market)))
 
 -- ---- drop
 
 pub drop-ready : {w v w₁ : List ℕ} (c : ℕ) → Roomy w v → Moved w w₁ (withLines (keep (λ x. not (eqb (x .conn) c)) (marketOf w .lines)) (marketOf w)) → Roomy w₁ v
-unfolding marketOf
-drop-ready {w} c r d = roomy-then r d refl (dropped-sound c (marketOf w) (r .sound .market))
+drop-ready {w} c r d = roomy-then r d (market-limits w) (dropped-sound c (marketOf w) (r .sound .market))
 
 pub drop-kept : {w v w₁ : List ℕ} (c t : ℕ) → Roomy w v → length w₁ ≡ length w → inLine c (marketOf w) ≡ false
     → Moved w w₁ (withLines (keep (λ x. not (eqb (x .conn) c)) (marketOf w .lines)) (marketOf w)) → Answers (dropConn c t (marketOf w)) (lent w v) (word kept 0 0) (lent w₁ v)
-unfolding dropConn marketOf
-drop-kept {w} c t r l e d = justly kept (r .sound) l d (rw e refl) (drop-safe c t (marketOf w) (r .sound .market))
+unfolding dropConn
+drop-kept {w} c t r l e d = justly kept (r .sound) l d (rw e refl) (safe-as w (dropConn c t (marketOf w)) (drop-safe c t (marketOf w) (r .sound .market)))
 
 -- promote is never refused
 promote-did : (t : ℕ) (m : Market) → (a : _) × ((k : Work) × (promote t m ≡ did a [] k))

@@ -1,12 +1,9 @@
 // The queries and the view, on a sound store.
 ghost use mathlib.Core.Path.{_≡_};
-ghost use mathlib.Core.List.{map};
-ghost use Prim.Native.Nat.{_*_, _≤_};
+ghost use Prim.Native.Nat.{_≤_};
 ghost use lib.ListN.{length};
 ghost use Rattle.rules.specs.Quantities.{areaItems};
-ghost use Rattle.rules.specs.Lines.{messageOf};
 ghost use Rattle.rules.specs.Refusals as Rules;
-ghost use Rattle.place.specs.Items.{itemsIn};
 ghost use Rattle.store.specs.Store.{limitsOf, marketOf, Sound};
 ghost use Rattle.output.specs.Output.{over};
 
@@ -15,7 +12,7 @@ pub fn in_line(s: &[u64], conn: u64) -> bool
     requires { ⌜ Sound (now s) ⌝ }
     ensures { λ r. ⌜ r ≡ Rules.inLine conn (marketOf (now (s .entry))) ⌝ }
 {
-    let lines = s[9] as usize;
+    let lines = store::conns::count(s);
     let i = store::conns::find(s, conn);
     if i >= lines {
         return false;
@@ -28,7 +25,7 @@ pub fn servable(s: &[u64]) -> bool
     requires { ⌜ Sound (now s) ⌝ }
     ensures { λ r. ⌜ r ≡ Rules.servable (marketOf (now (s .entry))) ⌝ }
 {
-    let n = s[9] as usize;
+    let n = store::conns::count(s);
     let mut i = 0;
     while i < n {
         if store::conns::line_at(s, i).servable() {
@@ -39,31 +36,19 @@ pub fn servable(s: &[u64]) -> bool
     false
 }
 
-// Writes the first n items' messages to the front of a list.
-fn put_messages(items: &[u64], n: usize, list: &mut [u64])
-    requires { ⌜ (4 * n ≤ length (now items)) × (n ≤ length (now list)) ⌝ }
-    ensures { λ _. ⌜ now (list .exit) ≡ over (map messageOf (itemsIn n (now (items .entry)))) (now (list .entry)) ⌝ }
-{
-    let mut i = 0;
-    while i < n {
-        list[i] = items[4 * i + 3];
-        i += 1;
-    }
-}
-
 // Writes a pending line's messages to the front of a list; how many there are.
 pub fn view(s: &[u64], conn: u64, list: &mut [u64]) -> usize
     requires { ⌜ (Sound (now s)) × (areaItems (limitsOf (now s)) ≤ length (now list)) ⌝ }
     ensures { λ r. ⌜ (r ≡ length (Rules.messages conn (marketOf (now (s .entry))))) × (now (list .exit) ≡ over (Rules.messages conn (marketOf (now (s .entry)))) (now (list .entry))) ⌝ }
 {
-    let lines = s[9] as usize;
+    let lines = store::conns::count(s);
     let i = store::conns::find(s, conn);
     if i >= lines {
         return 0;
     }
     if store::conns::line_at(s, i).pending() {
-        let n = moves::reads::held(s, i);
-        put_messages(moves::reads::items(s, i), n, list);
+        let n = store::conns::held(s, i);
+        place::put_messages(store::conns::items(s, i), n, list);
         return n;
     }
     0

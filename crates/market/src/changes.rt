@@ -11,9 +11,10 @@ pub fn subscribe(s: &mut [u64], conn: u64, t: u64) -> Changed
     requires { ⌜ Sound (now s) ⌝ }
     ensures { λ r. ⌜ Answers (Rules.subscribe conn t (marketOf (now (s .entry)))) (alone (now (s .entry))) (ofChanged r) (alone (now (s .exit))) ⌝ }
 {
-    let lines = s[9] as usize;
+    let lines = store::conns::count(s);
     let i = store::conns::find(s, conn);
-    let full = (lines <= i) & (s[0] <= s[9]);
+    let limits = store::entries::limits(s);
+    let full = (lines <= i) & (limits.L <= lines as u64);
     if full {
         return Changed::Refused(4);
     }
@@ -26,7 +27,7 @@ pub fn reset(s: &mut [u64], t: u64) -> Changed
     requires { ⌜ Sound (now s) ⌝ }
     ensures { λ r. ⌜ Answers (just done (Rules.reset t (marketOf (now (s .entry))))) (alone (now (s .entry))) (ofChanged r) (alone (now (s .exit))) ⌝ }
 {
-    store::entries::clear(s);
+    store::entries::clear_log(s);
     line_list::reset(s, t);
     Changed::Done
 }

@@ -1,43 +1,25 @@
 // Promote and drop, on a sound store.
-use crate::Claim;
 use crate::Source;
-use lines::Line;
+use lines::Claim;
 use rules::Lost;
-use rules::Stamp;
 ghost use mathlib.Core.Path.{_≡_};
 ghost use Prim.Native.Nat.{_<_};
 ghost use Rattle.rules.specs.Calls as Rules;
 ghost use Rattle.rules.specs.Calls.{claim, better};
 ghost use Rattle.rules.specs.Lines.{connAt};
 ghost use Rattle.rules.specs.Answers.{ofLost};
+ghost use Rattle.lines.specs.Line.{claimOf};
 ghost use Rattle.store.specs.Store.{marketOf, Sound};
 ghost use Rattle.store.specs.ConnMoves.{LineFits};
 ghost use Rattle.market.specs.Lent.{lent, Answers, Roomy};
-ghost use Rattle.market.specs.Claims.{claimOf, sourceOf};
+ghost use Rattle.market.specs.Claims.{sourceOf};
 
 // The i-th line's claim.
 fn claim_of(s: &[u64], i: usize) -> Claim
     requires { ⌜ LineFits (now s) i ⌝ }
     ensures { λ r. ⌜ claimOf r ≡ claim ((connAt i (marketOf (now (s .entry)))) .line) ⌝ }
 {
-    let line = store::conns::line_at(s, i);
-    match line {
-        Line::Waiting { items, since } => {
-            if place::holds_snapshot(moves::reads::items(s, i), items) {
-                return Claim::Of {
-                    pending: 0,
-                    time: since,
-                };
-            }
-            Claim::Nothing
-        }
-        Line::Pending { snapshot, .. } => match snapshot {
-            Stamp::Never => Claim::Nothing,
-            Stamp::At(time) => Claim::Of { pending: 1, time },
-        },
-        Line::InLine { .. } => Claim::Nothing,
-        Line::Failed => Claim::Nothing,
-    }
+    store::conns::line_at(s, i).claim(store::conns::items(s, i))
 }
 
 // Whether one claim is below another.
@@ -90,7 +72,7 @@ fn source(s: &[u64]) -> Source
     ensures { λ r. ⌜ sourceOf r ≡ Rules.source 0 (marketOf (now (s .entry)) .lines) ⌝ }
 {
     let mut best = Source::Nobody;
-    let mut i = s[9] as usize;
+    let mut i = store::conns::count(s);
     while 0 < i {
         i -= 1;
         let claim = claim_of(s, i);
@@ -104,16 +86,16 @@ pub fn promote(s: &mut [u64], out: &mut [u64], t: u64) -> Lost
     requires { ⌜ Roomy (now s) (now out) ⌝ }
     ensures { λ r. ⌜ Answers (Rules.promote t (marketOf (now (s .entry)))) (lent (now (s .entry)) (now (out .entry))) (ofLost r) (lent (now (s .exit)) (now (out .exit))) ⌝ }
 {
-    if store::conns::some_in_line(s) {
+    if store::conns::any_in_line(s) {
         return Lost::Kept;
     }
     let best = source(s);
-    store::entries::clear(s);
+    store::entries::clear_log(s);
     match best {
         Source::Nobody => Lost::Gone,
         Source::Best { line, .. } => {
             let n = moves::entering::take_over(s, out, 0, line, t);
-            let m = moves::lining_up::sweep(s, out, n, t);
+            let m = moves::lining_up::align_pending(s, out, n, t);
             Lost::Rebuild(m)
         }
     }

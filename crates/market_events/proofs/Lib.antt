@@ -1,2 +1,4 @@
+pub mod StepLaws
 pub mod EventLaws
 pub mod LeadLaws
+pub mod CallLaws

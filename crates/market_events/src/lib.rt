@@ -1,65 +1,35 @@
 // The book event, on a sound store.
 use lines::Line;
+use lines::Stepped;
 use rules::EventKey;
 use rules::Item;
 use rules::Step;
-ghost use mathlib.Core.Path.{_≡_};
-ghost use mathlib.Core.List.{List};
-ghost use Prim.Native.Nat.{ℕ, _+_, _≤_, _<_};
-ghost use Rattle.rules.specs.Lines.{lineOf, connAt};
+ghost use Prim.Native.Nat.{ℕ, _<_};
+ghost use Rattle.rules.specs.Lines.{lineOf};
 ghost use Rattle.rules.specs.Calls as Rules;
-ghost use Rattle.rules.specs.Answers.{ofStep};
-ghost use Rattle.lines.specs.Steps.{sameAt};
-ghost use Rattle.store.specs.Store.{headOf, marketOf, Sound};
+ghost use Rattle.rules.specs.Calls.{apply, held};
+ghost use Rattle.rules.specs.Answers.{word, ofStep};
+ghost use Rattle.lines.specs.Line.{Steps};
+ghost use Rattle.store.specs.Store.{lineCount, marketOf, Sound};
 ghost use Rattle.market.specs.Lent.{lent, lineFor, Answers, Roomy};
-ghost use Rattle.market_snapshots.specs.Settled.{Waits, Pends, Leads};
+ghost use Rattle.market_events.specs.Events.{stepAt, eventAt, Becomes, lineUpAnswers};
 
-// A book event to a Waiting line is held, while it has room.
-fn waiting_event(s: &mut [u64], i: usize, items: usize, key: EventKey, message: u64) -> Step
-    requires { ⌜ (Sound (now s)) × (Waits (now s) i items) ⌝ }
-    ensures { λ r. ⌜ ((t : ℕ) (v : List ℕ) → Answers (Rules.bookEvent i key message t (marketOf (now (s .entry))) ((connAt i (marketOf (now (s .entry)))) .line)) (lent (now (s .entry)) v) (ofStep r) (lent (now (s .exit)) v)) ⌝ }
+// What the i-th line makes of a book event of this key.
+fn step_of(s: &[u64], i: usize, key: EventKey) -> Stepped
+    requires { ⌜ (Sound (now s)) × (i < lineCount (now s)) ⌝ }
+    ensures { λ r. ⌜ ((message : ℕ) → Steps r (stepAt i key message (marketOf (now (s .entry))))) ⌝ }
 {
-    let h = s[1] as usize;
-    if h <= items {
-        store::conns::set_line(s, i, Line::Failed);
-        return Step::Failed;
-    }
-    if market_snapshots::full_log(s) {
-        return Step::Refused(5);
-    }
-    if market_snapshots::full_numbers(s) {
-        return Step::Refused(9);
-    }
-    store::conns::hold_item(s, i, Item::Event(key, message));
-    Step::Held
+    let head = store::entries::head(s);
+    let h = store::conns::held_limit(s);
+    store::conns::line_at(s, i).event(store::entries::keys(s), head, h, key)
 }
 
-// A book event to a Pending line is held, and the line tries to line up.
-fn pending_event(
-    s: &mut [u64],
-    out: &mut [u64],
-    i: usize,
-    items: usize,
-    key: EventKey,
-    message: u64,
-    t: u64,
-) -> Step
-    requires { ⌜ (Roomy (now s) (now out)) × (Pends (now s) i items) ⌝ }
-    ensures { λ r. ⌜ Answers (Rules.bookEvent i key message t (marketOf (now (s .entry))) ((connAt i (marketOf (now (s .entry)))) .line)) (lent (now (s .entry)) (now (out .entry))) (ofStep r) (lent (now (s .exit)) (now (out .exit))) ⌝ }
+// A pending line that holds one event more tries to line up.
+fn pending_event(s: &mut [u64], out: &mut [u64], i: usize, t: u64) -> Step
+    requires { ⌜ (Roomy (now s) (now out)) × (i < lineCount (now s)) ⌝ }
+    ensures { λ r. ⌜ Answers (lineUpAnswers i t (marketOf (now (s .entry)))) (lent (now (s .entry)) (now (out .entry))) (ofStep r) (lent (now (s .exit)) (now (out .exit))) ⌝ }
 {
-    let h = s[1] as usize;
-    if h <= items {
-        store::conns::set_line(s, i, Line::Failed);
-        return Step::Failed;
-    }
-    if market_snapshots::full_log(s) {
-        return Step::Refused(5);
-    }
-    if market_snapshots::full_numbers(s) {
-        return Step::Refused(9);
-    }
-    store::conns::hold_item(s, i, Item::Event(key, message));
-    let n = market_snapshots::settle(s, out, i, t);
+    let n = market_snapshots::released(s, out, i, t);
     if n == 0 {
         if store::conns::line_at(s, i).in_line() {
             return Step::Duplicate;
@@ -69,90 +39,52 @@ fn pending_event(
     Step::Apply(n)
 }
 
-// Whether the log's entry of number n has this key.
-fn same_at(s: &[u64], n: u64, key: EventKey) -> bool
-    requires { ⌜ (Sound (now s)) × ((headOf (now s) .base ≤ n) × (n < headOf (now s) .base + headOf (now s) .count)) ⌝ }
-    ensures { λ r. ⌜ r ≡ sameAt n key (marketOf (now (s .entry))) ⌝ }
+// A book event that the i-th line holds, which becomes `line`; a pending one tries to line up.
+fn held_event(
+    s: &mut [u64],
+    out: &mut [u64],
+    i: usize,
+    line: Line,
+    key: EventKey,
+    message: u64,
+    t: u64,
+) -> Step
+    requires { ⌜ (Roomy (now s) (now out)) × (Becomes (now s) i key message line (word held 0 0)) ⌝ }
+    ensures { λ r. ⌜ Answers (eventAt i key message t (marketOf (now (s .entry)))) (lent (now (s .entry)) (now (out .entry))) (ofStep r) (lent (now (s .exit)) (now (out .exit))) ⌝ }
 {
-    let i = (n - s[5]) as usize;
-    log::same_key(log::key_in(moves::reads::keys(s), i), key)
-}
-
-// A book event to a line in line whose next number the log has.
-fn known_event(s: &mut [u64], i: usize, next: u64, due0: bool, due1: bool, key: EventKey) -> Step
-    requires { ⌜ (Sound (now s)) × (Leads (now s) i next due0 due1) ⌝ }
-    requires { ⌜ (headOf (now s) .base ≤ next) × (next < headOf (now s) .base + headOf (now s) .count) ⌝ }
-    ensures { λ r. ⌜ ((message t : ℕ) (v : List ℕ) → Answers (Rules.bookEvent i key message t (marketOf (now (s .entry))) ((connAt i (marketOf (now (s .entry)))) .line)) (lent (now (s .entry)) v) (ofStep r) (lent (now (s .exit)) v)) ⌝ }
-{
-    if same_at(s, next, key) {
-        let line = Line::InLine {
-            next: next + 1,
-            due0,
-            due1,
-        };
-        store::conns::set_line(s, i, line);
-        return Step::Duplicate;
+    let full = market_snapshots::full(s);
+    if full != 0 {
+        return Step::Refused(full);
     }
-    Step::Diverged
+    store::conns::hold_item(s, i, Item::Event(key, message));
+    if line.pending() {
+        return pending_event(s, out, i, t);
+    }
+    Step::Held
 }
 
-// A book event to a line in line at the log's end: pushed and put out, and the others are swept.
+// A book event that the i-th line, in line, brings first: pushed and put out, and the pending lines are tried.
 fn new_event(
     s: &mut [u64],
     out: &mut [u64],
     i: usize,
-    next: u64,
-    due0: bool,
-    due1: bool,
+    line: Line,
     key: EventKey,
     message: u64,
     t: u64,
 ) -> Step
-    requires { ⌜ (Roomy (now s) (now out)) × (Leads (now s) i next due0 due1) ⌝ }
-    requires { ⌜ headOf (now s) .base + headOf (now s) .count ≤ next ⌝ }
-    ensures { λ r. ⌜ Answers (Rules.bookEvent i key message t (marketOf (now (s .entry))) ((connAt i (marketOf (now (s .entry)))) .line)) (lent (now (s .entry)) (now (out .entry))) (ofStep r) (lent (now (s .exit)) (now (out .exit))) ⌝ }
+    requires { ⌜ (Roomy (now s) (now out)) × (Becomes (now s) i key message line (word apply 1 0)) ⌝ }
+    ensures { λ r. ⌜ Answers (eventAt i key message t (marketOf (now (s .entry)))) (lent (now (s .entry)) (now (out .entry))) (ofStep r) (lent (now (s .exit)) (now (out .exit))) ⌝ }
 {
-    if market_snapshots::full_log(s) {
-        return Step::Refused(5);
-    }
-    if market_snapshots::full_numbers(s) {
-        return Step::Refused(9);
+    let full = market_snapshots::full(s);
+    if full != 0 {
+        return Step::Refused(full);
     }
     let conn = store::conns::conn_at(s, i);
     let n = moves::entering::push_out(s, out, 0, conn, t, key, message);
-    let line = Line::InLine {
-        next: next + 1,
-        due0,
-        due1,
-    };
     store::conns::set_line(s, i, line);
-    let m = moves::lining_up::sweep(s, out, n, t);
+    let m = moves::lining_up::align_pending(s, out, n, t);
     Step::Apply(m)
-}
-
-// A book event to a line in line.
-fn in_line_event(
-    s: &mut [u64],
-    out: &mut [u64],
-    i: usize,
-    next: u64,
-    due0: bool,
-    due1: bool,
-    key: EventKey,
-    message: u64,
-    t: u64,
-) -> Step
-    requires { ⌜ (Roomy (now s) (now out)) × (Leads (now s) i next due0 due1) ⌝ }
-    ensures { λ r. ⌜ Answers (Rules.bookEvent i key message t (marketOf (now (s .entry))) ((connAt i (marketOf (now (s .entry)))) .line)) (lent (now (s .entry)) (now (out .entry))) (ofStep r) (lent (now (s .exit)) (now (out .exit))) ⌝ }
-{
-    if next < s[5] {
-        store::conns::set_line(s, i, Line::Failed);
-        return Step::Failed;
-    }
-    if next < moves::reads::end(s) {
-        return known_event(s, i, next, due0, due1, key);
-    }
-    new_event(s, out, i, next, due0, due1, key, message, t)
 }
 
 // A book event by a connection.
@@ -167,26 +99,28 @@ pub fn book_event(
     requires { ⌜ Roomy (now s) (now out) ⌝ }
     ensures { λ r. ⌜ Answers (Rules.bookEvent (lineOf conn (marketOf (now (s .entry)))) key message t (marketOf (now (s .entry))) (lineFor conn (marketOf (now (s .entry))))) (lent (now (s .entry)) (now (out .entry))) (ofStep r) (lent (now (s .exit)) (now (out .exit))) ⌝ }
 {
-    let lines = s[9] as usize;
+    let lines = store::conns::count(s);
     let i = store::conns::find(s, conn);
     if i >= lines {
         return Step::Ignored;
     }
-    let line = store::conns::line_at(s, i);
-    match line {
-        Line::Waiting { items, .. } => waiting_event(s, i, items, key, message),
-        Line::Pending { items, .. } => pending_event(s, out, i, items, key, message, t),
-        Line::InLine { next, due0, due1 } => in_line_event(
-            s,
-            out,
-            i,
-            next,
-            due0,
-            due1,
-            key,
-            message,
-            t,
-        ),
-        Line::Failed => Step::Ignored,
+    let stepped = step_of(s, i, key);
+    let line = stepped.line;
+    let step = stepped.step;
+    match step {
+        Step::Apply(_) => new_event(s, out, i, line, key, message, t),
+        Step::Held => held_event(s, out, i, line, key, message, t),
+        Step::Duplicate => {
+            store::conns::set_line(s, i, line);
+            step
+        }
+        Step::Failed => {
+            store::conns::set_line(s, i, line);
+            step
+        }
+        Step::Ignored => step,
+        Step::Diverged => step,
+        // the line has no number left: the numbers are full, and 5 comes before 9
+        Step::Refused(_) => Step::Refused(market_snapshots::full(s)),
     }
 }

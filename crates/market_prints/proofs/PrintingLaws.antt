@@ -28,21 +28,18 @@ use Rattle.lines.specs.Area.{headLine}
 use Rattle.store.specs.Store.{limitsOf, lineCount, lineWordsAt, marketOf, Sound}
 use Rattle.store.specs.Moves.{Moved, Tabled}
 use Rattle.store.specs.ConnMoves.{LineAt, NotFailed, PrintRoom}
+use Rattle.store.proofs.MarketLaws.{market-limits, lines-count}
 use Rattle.store.proofs.FrameLaws.{moved-on, moved-is}
-use Rattle.store.proofs.ConnLaws.{lines-count, fits-sound, line-told, line-at-kept}
-use Rattle.store.proofs.EntryLaws.{market-limits}
+use Rattle.store.proofs.ConnLaws.{fits-sound, line-told, line-at-kept}
 use Rattle.store.proofs.TableLaws.{tabled}
 use Rattle.output.specs.Output.{recordWords, overAt}
 use Rattle.market.specs.Lent.{Lent, lent, Answers, Roomy}
 use Rattle.market_prints.specs.Put.{putPrint}
 use Rattle.moves.proofs.DoesLaws.{moved-none, does-then, does-market, does-put}
-use Rattle.market.proofs.AnswerLaws.{roomy-then, refuses, answered, justly, answers-from}
+use Rattle.market.proofs.AnswerLaws.{roomy-then, safe-as, refuses, answered, justly, answers-from}
 
 answers-is : {o p : Outcome} {l l₁ : Lent} {r : Said} → o ≡ p → Answers p l r l₁ → Answers o l r l₁
 answers-is {l = l} {l₁ = l₁} {r = r} e a = subst (λ (x : Outcome). Answers x l r l₁) (sym e) a
-
-safe-words : (w : List ℕ) (o : Outcome) → Safe (marketOf w .limits) o → Safe (limitsOf w) o
-safe-words w o s = subst (λ (l : Limits). Safe l o) (market-limits w) s
 
 -- ---- hold
 
@@ -71,7 +68,7 @@ module _ (i : ℕ) (k : Key) (msg : ℕ) (m : Market) where
 
 module _ {w : List ℕ} {i : ℕ} (p : Sound w × ((i < lineCount w) × NotFailed w i)) (k : Key) (msg : ℕ) where
   hold-safe : Safe (limitsOf w) (holdPrint i k msg (marketOf w))
-  hold-safe = safe-words w (holdPrint i k msg (marketOf w)) (holdPrint-safe i k msg (marketOf w) ((connAt i (marketOf w)) .line) refl (p .1 .1) (p .0 .market))
+  hold-safe = safe-as w (holdPrint i k msg (marketOf w)) (holdPrint-safe i k msg (marketOf w) ((connAt i (marketOf w)) .line) refl (p .1 .1) (p .0 .market))
 
   pub held-already : any (λ h. same (h .0) k) ((connAt i (marketOf w)) .held) ≡ true
       → (v : List ℕ) → Answers (holdPrint i k msg (marketOf w)) (lent w v) (word held 0 0) (lent w v)
@@ -127,7 +124,7 @@ put-done {w} {v} c k msg d a r h l moved put =
     let x = printOut c k msg (d - a) in
     answered apply (r .sound) l
     (does-then (onMarket f) (putOut x) (omega arith) (does-market {v = v} {n = 0} f moved) (does-put x (moved .sized) put) (begin (marketOf w)) refl)
-    refl (safe-words w (putPrint c k msg d a (marketOf w)) (put-safe c k msg d a (marketOf w) h (r .sound .market)))
+    refl (safe-as w (putPrint c k msg d a (marketOf w)) (put-safe c k msg d a (marketOf w) h (r .sound .market)))
 
 -- ---- counted
 
@@ -163,7 +160,7 @@ module _ {w v : List ℕ} (i c : ℕ) (k : Key) (msg d a : ℕ) where
       → Answers (printCounted i c k msg d a (marketOf w) ((connAt i (marketOf w)) .line)) (lent w v) (word duplicate 0 0) (lent w v)
   counted-duplicate s f h =
       answers-is (duplicate-is i c k msg d a (marketOf w) ((connAt i (marketOf w)) .line) f (le-leb d a h))
-      (justly duplicate s refl (moved-none (s .sized)) refl (safe-words w (just duplicate (marketOf w)) (just-safe (marketOf w) duplicate (s .market))))
+      (justly duplicate s refl (moved-none (s .sized)) refl (safe-as w (just duplicate (marketOf w)) (just-safe (marketOf w) duplicate (s .market))))
 
   module _ {w₁ v₁ : List ℕ} {s : Said} {r : Bool} {l : Value} (n : i < lineCount w) (q : l ≡ headLine (lineWordsAt w i)) (e : (x : List ℕ) → r ≡ isInLine (Lines.lineOf l x)) (h : a < d) where
     pub counted-put : r ≡ true → Answers (putPrint c k msg d a (marketOf w)) (lent w v) s (lent w₁ v₁)
@@ -262,7 +259,7 @@ module _ {w v : List ℕ} {i : ℕ} (c : ℕ) (k : Key) (msg t : ℕ) (s : Sound
   ignores : isFailed ((connAt i (marketOf w)) .line) ≡ true → Answers (print c k msg t (marketOf w)) (lent w v) (word ignored 0 0) (lent w v)
   ignores f =
       justly ignored s refl (moved-none (s .sized)) (print-ignored c k msg t (marketOf w) (subst (λ (x : ℕ). isFailed ((connAt x (marketOf w)) .line) ≡ true) q f))
-      (safe-words w (print c k msg t (marketOf w)) (print-safe c k msg t (marketOf w) (s .market)))
+      (safe-as w (print c k msg t (marketOf w)) (print-safe c k msg t (marketOf w) (s .market)))
 
   pub nobody-ignored : lineCount w ≤ i → Answers (print c k msg t (marketOf w)) (lent w v) (word ignored 0 0) (lent w v)
   nobody-ignored h = ignores (ap (λ (x : Connection). isFailed (x .line)) (List·getD-eq-default (marketOf w .lines) nobody {n = i} (omega (arith, lines-count w))))

@@ -16,9 +16,6 @@ ghost use Rattle.store.specs.ConnMoves.{NotFailed};
 ghost use Rattle.market.specs.Lent.{lent, Answers, Roomy};
 ghost use Rattle.market_prints.specs.Put.{putPrint};
 
-// The largest delivered count.
-const MAX_COUNT: u64 = 4_294_967_295;
-
 // A print is held once for each line; one too many and the line fails.
 fn hold(s: &mut [u64], i: usize, key: EventKey, message: u64) -> Step
     requires { ⌜ (Sound (now s)) × ((i < lineCount (now s)) × (NotFailed (now s) i)) ⌝ }
@@ -27,8 +24,8 @@ fn hold(s: &mut [u64], i: usize, key: EventKey, message: u64) -> Step
     if store::conns::holds_print(s, i, key) {
         return Step::Held;
     }
-    let h = s[1] as usize;
-    if h <= moves::reads::prints_held(s, i) {
+    let h = store::conns::held_limit(s);
+    if h <= store::conns::prints_held(s, i) {
         store::conns::drop_prints(s, i);
         store::conns::set_line(s, i, Line::Failed);
         return Step::Failed;
@@ -103,7 +100,7 @@ fn deliver(
         return Step::Refused(7);
     }
     let delivered = store::tables::delivered(s, key, conn);
-    if MAX_COUNT <= delivered {
+    if prints::MAX_COUNT <= delivered {
         return Step::Refused(8);
     }
     let applied = store::tables::applied(s, key);
@@ -112,11 +109,11 @@ fn deliver(
 }
 
 // A print by a connection.
-pub fn print(s: &mut [u64], out: &mut [u64], conn: u64, key: EventKey, message: u64, t: u64) -> Step
+pub fn other(s: &mut [u64], out: &mut [u64], conn: u64, key: EventKey, message: u64, t: u64) -> Step
     requires { ⌜ Roomy (now s) (now out) ⌝ }
     ensures { λ r. ⌜ Answers (Rules.print conn key message t (marketOf (now (s .entry)))) (lent (now (s .entry)) (now (out .entry))) (ofStep r) (lent (now (s .exit)) (now (out .exit))) ⌝ }
 {
-    let lines = s[9] as usize;
+    let lines = store::conns::count(s);
     let i = store::conns::find(s, conn);
     if i >= lines {
         return Step::Ignored;

@@ -1,23 +1,21 @@
 -- Laws of a line that holds one item more: it stays sound, its snapshot may be complete, it may take the market over.
 use mathlib.Core.Path.{_≡_, refl, sym, ap, _∙_, subst}
-use mathlib.Core.List.{List, [], _∷_, _++_}
-use mathlib.Core.Bool.{Bool, true, false, not, _&&_, cond}
-use Prim.Native.Nat.{ℕ, _+_, _^_, _≤_, _<_}
+use mathlib.Core.List.{List, [], _∷_}
+use mathlib.Core.Bool.{Bool, true, false, not, cond}
+use Prim.Native.Nat.{ℕ, _+_, _*_, _^_, _≤_, _<_}
 use native.Mathlib.Omega.{arith}
-use lib.Dec.{leb}
 use lib.ListN.{length, getD, set, length-append}
 use lib.Seq.{getD-set-same, set-set}
 use Rattle.rules.specs.declared.Item.{Item}
 use Rattle.rules.specs.declared.Item.the-variants as Item
 use Rattle.rules.specs.declared.Limits.{Limits}
-use Rattle.rules.specs.declared.Stamp.the-variants as Stamp
 use Rattle.rules.specs.Lists.{any}
 use Rattle.rules.specs.Quantities.{areaItems, maxNumber, snapshotOut}
 use Rattle.rules.specs.Log.{end, stamp}
 use Rattle.rules.specs.Lines as Rules
-use Rattle.rules.specs.Lines.{Connection, Market, connAt, nobody, itemsOf, itemCount, someone, snapshotOf, withLog, withLines, setLine}
+use Rattle.rules.specs.Lines.{Connection, Market, connAt, nobody, itemsOf, itemCount, snapshotOf, withLog, withLines, setLine}
 use Rattle.rules.specs.Entering.{Work, begin, onMarket, noteEntry, putOut, pushOut, putItems, release, enter, takeOver}
-use Rattle.rules.specs.Calls.{refused, did, just, apply, held, released, fullLog, fullNumbers, snapshot}
+use Rattle.rules.specs.Calls.{just, apply, held, released}
 use Rattle.rules.specs.Answers.{word}
 use Rattle.rules.specs.Sound as Sounds
 use Rattle.rules.specs.Sound.{LineSound, Known}
@@ -25,19 +23,19 @@ use Rattle.rules.proofs.Tests.{leb-false}
 use Rattle.rules.proofs.ListLaws.{each-append}
 use Rattle.rules.proofs.Moves.{putItems-grown}
 use Rattle.rules.proofs.SoundMoves.{setConn-sound}
-use Rattle.place.specs.Items.{kindOf, itemsIn}
+use Rattle.place.specs.Items.{kindOf}
 use Rattle.lines.specs.declared.Line.{Line}
-use Rattle.lines.specs.Line.{lineOf, holding, complete}
+use Rattle.lines.specs.Line.{lineOf, heldOf, holding, complete, holdsBoth}
 use Rattle.lines.specs.Area.{headLine}
+use Rattle.lines.proofs.HeldLaws.{Holds}
 use Rattle.store.specs.Store.{limitsOf, lineCount, lineWordsAt, marketOf, Sound}
 use Rattle.store.specs.Moves.{Moved}
-use Rattle.store.specs.ConnMoves.{itemsAt, NotFailed, ItemRoom}
-use Rattle.store.proofs.ConnLaws.{line-told, fits-sound}
-use Rattle.store.proofs.EntryLaws.{market-limits}
+use Rattle.store.specs.ConnMoves.{itemsAt, ItemRoom}
+use Rattle.store.proofs.MarketLaws.{market-limits}
+use Rattle.store.proofs.ConnLaws.{line-told, items-counted, items-inside, fits-sound}
 use Rattle.market.specs.Lent.{lent, Answers, Roomy}
-use Rattle.market_snapshots.specs.Settled.{Settled, tried, completed}
-use Rattle.moves.proofs.LiningReads.{items-said}
-use Rattle.market_snapshots.proofs.SnapshotLaws.{line-here, line-sound, held-fits, shrunk, changed-here, changed-limits, changed-self, changed-roomy, stays, settled-none, settled-some}
+use Rattle.market_snapshots.specs.Snapshots.{fullness, Released, tried, completed}
+use Rattle.market_snapshots.proofs.SnapshotLaws.{log-room, numbers-room, line-here, line-value, line-sound, held-fits, shrunk, changed-here, changed-limits, changed-line, changed-self, changed-roomy, stays, tried-none, tried-some}
 
 -- ---- one item more
 
@@ -54,37 +52,56 @@ known-kind : (item : Item) → Known item → kindOf item < 2 ^ 64
 known-kind (Item.Snapshot t msg) k = omega arith
 known-kind (Item.Event key msg) k = omega arith
 
-module _ {w : List ℕ} {i : ℕ} (h : i < lineCount w) (s : Sound w) (item : Item) (k : Known item) (r : length (itemsOf ((connAt i (marketOf w)) .line)) < areaItems (limitsOf w)) where
-  pub held-sound : fullLog (marketOf w) ≡ false → fullNumbers (marketOf w) ≡ false → Sounds.Sound (setLine i (holding item ((connAt i (marketOf w)) .line)) (marketOf w))
-  held-sound f₅ f₉ =
-      let m = marketOf w in
-      let a : length (m .log .entries) + itemCount (m .lines) < m .limits .G = leb-false f₅ in
-      let b : end (m .log) + itemCount (m .lines) < maxNumber = leb-false f₉ in
-      let c = ap (λ (l : Limits). l .H) (market-limits w) in
-      let y = holding-kept (m .limits) (end (m .log)) item ((connAt i m) .line) (line-sound s h) k (omega arith) in
-      let z = y .1 in
-      setConn-sound m i (holding item ((connAt i m) .line)) ((connAt i m) .held) (s .market) (line-here s h) (y .0) (held-fits s h) (omega arith) (omega arith)
+module _ {w v : List ℕ} {i : ℕ} {item : Item} {new : Rules.Line} (r : Roomy w v) (h : i < lineCount w) (k : Known item)
+    (x : Holds (areaItems (limitsOf w)) item ((connAt i (marketOf w)) .line) new) where
+  pub hold-room : ItemRoom w i item
+  hold-room = record { fits = fits-sound w (r .sound) i h; unfailed = x .was; room = x .few; kind = known-kind item k }
 
-  pub hold-room : NotFailed w i → ItemRoom w i item
-  hold-room f = record { fits = fits-sound w s i h; unfailed = f; room = r; kind = known-kind item k }
+  held-sound : fullness (marketOf w) ≡ 0 → Sounds.Sound (setLine i (holding item ((connAt i (marketOf w)) .line)) (marketOf w))
+  held-sound f =
+      let m = marketOf w in
+      let a : length (m .log .entries) + itemCount (m .lines) < m .limits .G = leb-false (log-room m f) in
+      let b : end (m .log) + itemCount (m .lines) < maxNumber = leb-false (numbers-room m f) in
+      let c = ap (λ (l : Limits). l .H) (market-limits w) in
+      let d = x .few in
+      let y = holding-kept (m .limits) (end (m .log)) item ((connAt i m) .line) (line-sound (r .sound) h) k (omega arith) in
+      let z = y .1 in
+      setConn-sound m i (holding item ((connAt i m) .line)) ((connAt i m) .held) (r .sound .market) (line-here (r .sound) h) (y .0) (held-fits (r .sound) h)
+      (omega arith) (omega arith)
+
+  module _ {w₁ : List ℕ} (d : Moved w w₁ (setLine i (holding item ((connAt i (marketOf w)) .line)) (marketOf w))) where
+    pub held-moved : Moved w w₁ (setLine i new (marketOf w))
+    held-moved = subst (λ (l : Rules.Line). Moved w w₁ (setLine i l (marketOf w))) (sym (x .line)) d
+
+    pub held-line : (connAt i (marketOf w₁)) .line ≡ new
+    held-line = changed-line new h r held-moved
+
+    pub held-here : i < lineCount w₁
+    held-here = changed-here new h r held-moved
+
+    pub held-roomy : fullness (marketOf w) ≡ 0 → Roomy w₁ v
+    held-roomy f = changed-roomy (holding item ((connAt i (marketOf w)) .line)) h r d (held-sound f)
 
 -- ---- a line replaced twice
 
-set-twice : (i : ℕ) (l l′ : Rules.Line) (m : Market) → i < length (m .lines) → setLine i l′ (setLine i l m) ≡ setLine i l′ m
+pub set-twice : (i : ℕ) (l l′ : Rules.Line) (m : Market) → i < length (m .lines) → setLine i l′ (setLine i l m) ≡ setLine i l′ m
 set-twice i l l′ m h =
     let c : Connection = record { conn = (connAt i m) .conn; line = l; held = (connAt i m) .held } in
-    ap (λ (x : Connection). withLines (set (set (m .lines) i c) i (record { conn = x .conn; line = l′; held = x .held })) m) (getD-set-same (m .lines) i c nobody h)
+    ap (λ (x : Connection). withLines (set (set (m .lines) i c) i (record { conn = x .conn; line = l′; held = x .held })) m)
+    (getD-set-same (m .lines) i c nobody h)
     ∙ ap (λ (ls : List Connection). withLines ls m) (set-set (m .lines) i c (record { conn = c .conn; line = l′; held = c .held }))
 
 -- ---- a take-over does not go by the line that it replaces
 
-lines-aside : (c t : ℕ) (is : List Item) (ls : List Connection) (k : Work) → putItems c t is (onMarket (withLines ls) k) ≡ onMarket (withLines ls) (putItems c t is k)
+lines-aside : (c t : ℕ) (is : List Item) (ls : List Connection) (k : Work)
+    → putItems c t is (onMarket (withLines ls) k) ≡ onMarket (withLines ls) (putItems c t is k)
 unfolding putItems pushOut
 lines-aside c t [] ls k = refl
 lines-aside c t (Item.Snapshot u msg ∷ is) ls k = lines-aside c t is ls (putOut (snapshotOut c msg) (onMarket (withLog (stamp t (k .market .log))) k))
 lines-aside c t (Item.Event key msg ∷ is) ls k = lines-aside c t is ls (pushOut c t key msg k)
 
-enter-aside : (i e n : ℕ) (a b : Bool) (c : Connection) (k : Work) → i < length (k .market .lines) → c .conn ≡ (connAt i (k .market)) .conn → c .held ≡ (connAt i (k .market)) .held
+enter-aside : (i e n : ℕ) (a b : Bool) (c : Connection) (k : Work) → i < length (k .market .lines) → c .conn ≡ (connAt i (k .market)) .conn
+    → c .held ≡ (connAt i (k .market)) .held
     → enter i e n a b (onMarket (withLines (set (k .market .lines) i c)) k) ≡ enter i e n a b k
 unfolding enter
 enter-aside i e n a b c k h p q =
@@ -97,7 +114,8 @@ enter-aside i e n a b c k h p q =
     ap (λ (y : ℕ). set (set ls i c) i (into y)) conn ∙ set-set ls i c (into ((connAt i (k .market)) .conn)) in
     λ j. release (conn j) (prints j) (noteEntry (conn j) e (onMarket (withLines (lines j)) k))
 
-pub takeOver-aside : (i : ℕ) (is : List Item) (t : ℕ) (l : Rules.Line) (m : Market) → i < length (m .lines) → takeOver i is t (begin (setLine i l m)) ≡ takeOver i is t (begin m)
+pub takeOver-aside : (i : ℕ) (is : List Item) (t : ℕ) (l : Rules.Line) (m : Market) → i < length (m .lines)
+    → takeOver i is t (begin (setLine i l m)) ≡ takeOver i is t (begin m)
 unfolding takeOver
 takeOver-aside i is t l m h =
     let c : Connection = record { conn = (connAt i m) .conn; line = l; held = (connAt i m) .held } in
@@ -111,31 +129,42 @@ takeOver-aside i is t l m h =
     ap (λ (z : ℕ). into (putItems z t is (begin (setLine i l m)))) (ap (λ (z : Connection). z .conn) (getD-set-same (m .lines) i c nobody h))
     ∙ ap into (lines-aside ((connAt i m) .conn) t is ls (begin m))
     ∙ ap (λ (z : List Connection). enter i (end (m .log)) (end (k .market .log)) x y (onMarket (withLines (set z i c)) k)) (sym g)
-    ∙ enter-aside i (end (m .log)) (end (k .market .log)) x y c k (omega arith) (ap (λ (z : List Connection). (getD z i nobody) .conn) (sym g)) (ap (λ (z : List Connection). (getD z i nobody) .held) (sym g))
+    ∙ enter-aside i (end (m .log)) (end (k .market .log)) x y c k (omega arith) (ap (λ (z : List Connection). (getD z i nobody) .conn) (sym g))
+    (ap (λ (z : List Connection). (getD z i nobody) .held) (sym g))
 
 -- ---- a snapshot that is complete
 
-complete-kept : (lim : Limits) (e t : ℕ) (l : Rules.Line) → LineSound lim e l → LineSound lim e (complete t l) × (length (itemsOf (complete t l)) ≤ length (itemsOf l))
+complete-kept : (lim : Limits) (e t : ℕ) (l : Rules.Line) → LineSound lim e l
+    → LineSound lim e (complete t l) × (length (itemsOf (complete t l)) ≤ length (itemsOf l))
 complete-kept lim e t (Rules.Waiting is since) s = (s, omega arith)
 complete-kept lim e t (Rules.Pending is at since) s = (s, omega arith)
 complete-kept lim e t (Rules.InLine n a b) s = (s, omega arith)
 complete-kept lim e t Rules.Failed s = (s, omega arith)
 
-module _ {w v : List ℕ} {i : ℕ} (t : ℕ) (r : Roomy w v) (h : i < lineCount w) where
-  module _ {is : List ℕ} {n : ℕ} {b : Bool} (u : ℕ) (e : n ≡ length (itemsOf ((connAt i (marketOf w)) .line))) (q : is ≡ itemsAt w i) (p : b ≡ any (snapshotOf u) (itemsIn n is)) where
-    pub token-said : {x : Bool} → b ≡ x → any (snapshotOf u) (itemsOf ((connAt i (marketOf w)) .line)) ≡ x
-    token-said y = sym (p ∙ ap (λ (z : List ℕ). any (snapshotOf u) (itemsIn n z)) q ∙ ap (any (snapshotOf u)) (items-said w i h n e)) ∙ y
+module _ {w v : List ℕ} {i : ℕ} (t : ℕ) (r : Roomy w v) (h : i < lineCount w) (self : Line) (q : self ≡ headLine (lineWordsAt w i)) where
+  pub items-ready : (is : List ℕ) → is ≡ itemsAt w i → 4 * heldOf self ≤ length is
+  items-ready is e =
+      omega (arith, ap length e, ap heldOf q, items-counted w i h, items-inside w i (fits-sound w (r .sound) i h))
 
-  module _ {x y : Bool} (a : any (snapshotOf 0) (itemsOf ((connAt i (marketOf w)) .line)) ≡ x) (b : any (snapshotOf 1) (itemsOf ((connAt i (marketOf w)) .line)) ≡ y) where
-    completed-by : completed i t (marketOf w) ≡ cond (x && y) (released held t (tried i t (setLine i (complete t ((connAt i (marketOf w)) .line)) (marketOf w)))) (just held (marketOf w))
-    completed-by j = cond (a j && b j) (released held t (tried i t (setLine i (complete t ((connAt i (marketOf w)) .line)) (marketOf w)))) (just held (marketOf w))
+  module _ {is : List ℕ} {b : Bool} (p : is ≡ itemsAt w i) (e : b ≡ holdsBoth (itemsOf (lineOf self is))) where
+    both-said : {x : Bool} → b ≡ x → holdsBoth (itemsOf ((connAt i (marketOf w)) .line)) ≡ x
+    both-said y =
+        ap (λ (l : Rules.Line). holdsBoth (itemsOf l)) (sym (line-value (r .sound) h self q))
+        ∙ ap (λ (z : List ℕ). holdsBoth (itemsOf (lineOf self z))) (sym p)
+        ∙ sym e
+        ∙ y
 
-    pub uncomplete : (x && y) ≡ false → Answers (completed i t (marketOf w)) (lent w v) (word held 0 0) (lent w v)
-    uncomplete e =
-        stays held (r .sound)
-        (completed-by ∙ ap (λ (c : Bool). cond c (released held t (tried i t (setLine i (complete t ((connAt i (marketOf w)) .line)) (marketOf w)))) (just held (marketOf w))) e)
+    completed-by : {x : Bool} → b ≡ x
+        → completed i t (marketOf w)
+        ≡ cond x (released held t (tried i t (setLine i (complete t ((connAt i (marketOf w)) .line)) (marketOf w)))) (just held (marketOf w))
+    completed-by y =
+        ap (λ (x : Bool). cond x (released held t (tried i t (setLine i (complete t ((connAt i (marketOf w)) .line)) (marketOf w)))) (just held (marketOf w)))
+        (both-said y)
 
-  module _ {w₁ : List ℕ} (self line : Line) (q : self ≡ headLine (lineWordsAt w i)) (e : (x : List ℕ) → lineOf line x ≡ complete t (lineOf self x))
+    pub uncomplete : b ≡ false → Answers (completed i t (marketOf w)) (lent w v) (word held 0 0) (lent w v)
+    uncomplete y = stays held (r .sound) (completed-by y)
+
+  module _ {w₁ : List ℕ} (line : Line) (e : (x : List ℕ) → lineOf line x ≡ complete t (lineOf self x))
       (d : Moved w w₁ (setLine i (lineOf line (itemsAt w i)) (marketOf w))) where
     complete-moved : Moved w w₁ (setLine i (complete t ((connAt i (marketOf w)) .line)) (marketOf w))
     complete-moved = subst (λ (l : Rules.Line). Moved w w₁ (setLine i l (marketOf w))) (line-told w i h (complete t) (λ x. lineOf line x) self e q) d
@@ -146,48 +175,17 @@ module _ {w v : List ℕ} {i : ℕ} (t : ℕ) (r : Roomy w v) (h : i < lineCount
         let k = complete-kept (marketOf w .limits) (end (marketOf w .log)) t ((connAt i (marketOf w)) .line) (line-sound (r .sound) h) in
         (changed-roomy l h r complete-moved (shrunk (r .sound) h l (k .0) (k .1)), changed-here l h r complete-moved)
 
-    module _ {w₂ v₂ : List ℕ} {n : ℕ} (a : any (snapshotOf 0) (itemsOf ((connAt i (marketOf w)) .line)) ≡ true) (b : any (snapshotOf 1) (itemsOf ((connAt i (marketOf w)) .line)) ≡ true)
-        (l : length w₂ ≡ length w) (g : Settled i t w₁ v w₂ v₂ n) where
+    module _ {is : List ℕ} {b : Bool} (p : is ≡ itemsAt w i) (a : b ≡ holdsBoth (itemsOf (lineOf self is))) (y : b ≡ true)
+        {w₂ v₂ : List ℕ} {n : ℕ} (l : length w₂ ≡ length w) (g : Released i t w₁ v w₂ v₂ n) where
       completes : completed i t (marketOf w) ≡ released held t (tried i t (marketOf w₁))
-      completes = completed-by a b ∙ ap (λ (m : Market). released held t (tried i t m)) (sym (complete-moved .market))
+      completes = completed-by p a y ∙ ap (λ (m : Market). released held t (tried i t m)) (sym (complete-moved .market))
 
       pub complete-none : n ≡ 0 → Answers (completed i t (marketOf w)) (lent w v) (word held 0 0) (lent w₂ v₂)
-      complete-none z = settled-none held (r .sound) (complete-ready .0) (changed-self (complete t ((connAt i (marketOf w)) .line)) h r complete-moved) (changed-limits (complete t ((connAt i (marketOf w)) .line)) h r complete-moved) l g completes z
+      complete-none z =
+          let x = complete t ((connAt i (marketOf w)) .line) in
+          tried-none held (r .sound) (complete-ready .0) (changed-self x h r complete-moved) (changed-limits x h r complete-moved) l g completes z
 
       pub complete-some : (n ≡ 0 → ⊥) → Answers (completed i t (marketOf w)) (lent w v) (word apply n 0) (lent w₂ v₂)
-      complete-some z = settled-some held (r .sound) (complete-ready .0) (changed-self (complete t ((connAt i (marketOf w)) .line)) h r complete-moved) (changed-limits (complete t ((connAt i (marketOf w)) .line)) h r complete-moved) l g completes z
-
--- ---- a snapshot to a Waiting line, by the rules
-
-module _ (i token msg t : ℕ) (m : Market) (is : List Item) (since : ℕ) where
-  pub snap-6 : leb (areaItems (m .limits)) (length is) ≡ true → snapshot i token msg t m (Rules.Waiting is since) ≡ refused 6
-  unfolding snapshot
-  snap-6 a = rw a
-
-  module _ (a : leb (areaItems (m .limits)) (length is) ≡ false) where
-    pub snap-5 : fullLog m ≡ true → snapshot i token msg t m (Rules.Waiting is since) ≡ refused 5
-    unfolding snapshot
-    snap-5 b = rw (a, b)
-
-    module _ (b : fullLog m ≡ false) where
-      pub snap-9 : fullNumbers m ≡ true → snapshot i token msg t m (Rules.Waiting is since) ≡ refused 9
-      unfolding snapshot
-      snap-9 c = rw (a, b, c)
-
-      module _ (c : fullNumbers m ≡ false) where
-        pub snap-led : i < length (m .lines) → someone (m .lines) ≡ true
-            → snapshot i token msg t m (Rules.Waiting is since) ≡ completed i t (setLine i (Rules.Waiting (is ++ (Item.Snapshot token msg ∷ [])) since) m)
-        unfolding snapshot
-        snap-led h e =
-            let is′ = is ++ (Item.Snapshot token msg ∷ []) in
-            let m₁ = setLine i (Rules.Waiting is′ since) m in
-            let x : Connection = record { conn = (connAt i m) .conn; line = Rules.Waiting is′ since; held = (connAt i m) .held } in
-            let q : (connAt i m₁) .line ≡ Rules.Waiting is′ since = ap (λ (y : Connection). y .line) (getD-set-same (m .lines) i x nobody h) in
-            let p : setLine i (Rules.Pending is′ (Stamp.At t) t) m ≡ setLine i (Rules.Pending is′ (Stamp.At t) t) m₁ = sym (set-twice i (Rules.Waiting is′ since) (Rules.Pending is′ (Stamp.At t) t) m h) in
-            rw (a, b, c, e)
-            (ap (λ (y : Market). cond (any (snapshotOf 0) is′ && any (snapshotOf 1) is′) (released held t (tried i t y)) (just held m₁)) p
-            ∙ ap (λ (l : Rules.Line). cond (any (snapshotOf 0) (itemsOf l) && any (snapshotOf 1) (itemsOf l)) (released held t (tried i t (setLine i (complete t l) m₁))) (just held m₁)) (sym q))
-
-        pub snap-over : someone (m .lines) ≡ false → snapshot i token msg t m (Rules.Waiting is since) ≡ did apply [] (takeOver i (is ++ (Item.Snapshot token msg ∷ [])) t (begin m))
-        unfolding snapshot
-        snap-over e = rw (a, b, c, e)
+      complete-some z =
+          let x = complete t ((connAt i (marketOf w)) .line) in
+          tried-some held (r .sound) (complete-ready .0) (changed-self x h r complete-moved) (changed-limits x h r complete-moved) l g completes z

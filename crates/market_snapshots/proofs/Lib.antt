@@ -1,3 +1,5 @@
 pub mod SnapshotLaws
+pub mod StepLaws
+pub mod DueLaws
 pub mod HoldLaws
-pub mod WaitingLaws
+pub mod HeldLaws

@@ -1,3 +1,4 @@
+pub mod TimeLaws
 pub mod TurnLaws
 pub mod QuietLaws
 pub mod TickLaws

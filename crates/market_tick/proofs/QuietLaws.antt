@@ -10,22 +10,24 @@ use Rattle.rules.specs.declared.Item.{Item}
 use Rattle.rules.specs.declared.Stamp.{Stamp}
 use Rattle.rules.specs.Lists.{nil, isSome}
 use Rattle.rules.specs.Log.{end}
-use Rattle.rules.specs.Lines.{Market, Pending, connAt, events, itemsOf, nobody}
+use Rattle.rules.specs.Lines.{Line, Market, connAt, events, itemsOf, nobody}
 use Rattle.rules.specs.Entering.{aligns, enter, tryLineUp}
-use Rattle.rules.specs.Tick.{quietLineUp, quietly}
+use Rattle.rules.specs.Tick.{quietLineUp, quietLog}
 use Rattle.rules.specs.Sound.{holdings, holds}
 use Rattle.rules.proofs.SoundMoves.{sum-set}
 use Rattle.place.specs.declared.Place.{Place}
 use Rattle.place.specs.declared.Place.the-variants as Place
 use Rattle.place.specs.Items.{placeOf}
-use Rattle.log.specs.Log.{logOf}
 use Rattle.log.specs.declared.Head.{Head}
+use Rattle.log.specs.Answers.{quietStamp}
+use Rattle.lines.specs.Line.{snapshotQuiet}
 use Rattle.store.specs.Store.{headOf, lineCount, marketOf}
 use Rattle.store.specs.ConnMoves.{NotFailed}
-use Rattle.store.proofs.ConnLaws.{lines-count, fits-sound}
+use Rattle.store.proofs.MarketLaws.{lines-count, market-last}
+use Rattle.store.proofs.ConnLaws.{fits-sound}
 use Rattle.store.proofs.TableLaws.{tabled}
 use Rattle.moves.specs.Does.{Does, Ready, EnterRoom}
-use Rattle.market_tick.specs.Turns.{quietStamp, fitsQuietly}
+use Rattle.market_tick.specs.Turns.{fitsQuietly, quietlyOf}
 use Rattle.moves.proofs.DoesLaws.{does-as}
 
 -- ---- quiet line-up
@@ -78,13 +80,13 @@ module _ (u : List ℕ) (i : ℕ) {x : ℕ} (p : x ≡ length (events (itemsOf (
   abbrev found : Option (ℕ × ℕ)
   found = aligns true ((connAt i (marketOf u)) .line) (marketOf u)
 
-  pub fits-empty : x ≡ 0 → true ≡ fitsQuietly i (marketOf u)
+  pub fits-empty : x ≡ 0 → true ≡ fitsQuietly ((connAt i (marketOf u)) .line) (marketOf u)
   fits-empty z = rw (nil-none (events its) (sym p ∙ z)) refl
 
-  pub fits-at : (r : Place) (j n : ℕ) → r ≡ placeOf (marketOf u .log .base) found → r ≡ Place.At j n → true ≡ fitsQuietly i (marketOf u)
+  pub fits-at : (r : Place) (j n : ℕ) → r ≡ placeOf (marketOf u .log .base) found → r ≡ Place.At j n → true ≡ fitsQuietly ((connAt i (marketOf u)) .line) (marketOf u)
   fits-at r j n q e = rw (place-some (marketOf u .log .base) j n found q e) (sym (or-true (nil (events its))))
 
-  pub fits-nowhere : (x ≡ 0 → ⊥) → (r : Place) → r ≡ placeOf (marketOf u .log .base) found → r ≡ Place.Nowhere → false ≡ fitsQuietly i (marketOf u)
+  pub fits-nowhere : (x ≡ 0 → ⊥) → (r : Place) → r ≡ placeOf (marketOf u .log .base) found → r ≡ Place.Nowhere → false ≡ fitsQuietly ((connAt i (marketOf u)) .line) (marketOf u)
   fits-nowhere z r q e = rw (nil-some (events its) (λ y. z (p ∙ y)), place-none (marketOf u .log .base) found q e) refl
 
 -- ---- whether it may line up quietly
@@ -103,39 +105,35 @@ second-no : (a x s : Bool) → (a && false && x && s) ≡ false
 second-no true x s = refl
 second-no false x s = refl
 
-log-last : (u : List ℕ) → headOf u .last ≡ marketOf u .log .last
-unfolding marketOf logOf
-log-last u = refl
+module _ (u : List ℕ) (i now : ℕ) (same : Bool) where
+  abbrev line : Line
+  line = (connAt i (marketOf u)) .line
 
-module _ (u : List ℕ) (i : ℕ) (at : Stamp) (since now : ℕ) (same : Bool) where
   abbrev It : Bool
-  It = quietly (itemsOf ((connAt i (marketOf u)) .line)) at since same now (marketOf u)
+  It = quietlyOf line same now (marketOf u)
 
   abbrev fit : Bool
-  fit = nil (events (itemsOf ((connAt i (marketOf u)) .line))) || isSome (aligns true (Pending (itemsOf ((connAt i (marketOf u)) .line)) at since) (marketOf u))
+  fit = fitsQuietly line (marketOf u)
 
-  abbrev logQuiet : Bool
-  logQuiet = quietStamp (marketOf u .log .last) now true
+  abbrev calm : Bool
+  calm = quietLog now (marketOf u .log)
 
   module _ {h : Head} (e : h ≡ headOf u) {a : Bool} (p : a ≡ quietStamp (h .last) now true) where
-    last-quiet : logQuiet ≡ a
-    last-quiet = sym (p ∙ ap (λ (s : Stamp). quietStamp s now true) (ap (λ (x : Head). x .last) e ∙ log-last u))
+    calm-is : calm ≡ a
+    calm-is = sym (p ∙ ap (λ (s : Stamp). quietStamp s now true) (ap (λ (x : Head). x .last) e ∙ sym (market-last u)))
 
     -- the log is not quiet
     pub quietly-loud : a ≡ false → false ≡ It
-    quietly-loud z = sym (λ j. (last-quiet ∙ z) j && quietStamp at now false && fit && same)
+    quietly-loud z = sym (λ j. (calm-is ∙ z) j && snapshotQuiet now line && fit && same)
 
-    module _ {b : Bool} (q : b ≡ quietStamp at now false) where
+    -- the view is not the same
+    pub quietly-other : same ≡ false → false ≡ It
+    quietly-other z = sym ((λ j. calm && snapshotQuiet now line && fit && z j) ∙ four-no calm (snapshotQuiet now line) fit)
+
+    module _ {b : Bool} (q : b ≡ snapshotQuiet now line) where
       -- its snapshot is new
       pub quietly-new : b ≡ false → false ≡ It
-      quietly-new z = sym ((λ j. logQuiet && (sym q ∙ z) j && fit && same) ∙ second-no logQuiet fit same)
+      quietly-new z = sym ((λ j. calm && (sym q ∙ z) j && fit && same) ∙ second-no calm fit same)
 
-      -- the view is not the same
-      pub quietly-other : same ≡ false → false ≡ It
-      quietly-other z = sym ((λ j. logQuiet && quietStamp at now false && fit && z j) ∙ four-no logQuiet (quietStamp at now false) fit)
-
-      pub quietly-fits : (connAt i (marketOf u)) .line ≡ Pending (itemsOf ((connAt i (marketOf u)) .line)) at since → a ≡ true → b ≡ true → same ≡ true
-          → {r : Bool} → r ≡ fitsQuietly i (marketOf u) → r ≡ It
-      quietly-fits l x y z f =
-          f ∙ (λ j. nil (events (itemsOf ((connAt i (marketOf u)) .line))) || isSome (aligns true (l j) (marketOf u)))
-          ∙ sym ((λ j. (last-quiet ∙ x) j && (sym q ∙ y) j && fit && z j) ∙ four-yes fit)
+      pub quietly-fits : a ≡ true → b ≡ true → same ≡ true → {r : Bool} → r ≡ fit → r ≡ It
+      quietly-fits x y z f = f ∙ sym ((λ j. (calm-is ∙ x) j && (sym q ∙ y) j && fit && z j) ∙ four-yes fit)

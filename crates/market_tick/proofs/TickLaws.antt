@@ -31,7 +31,7 @@ use Rattle.rules.proofs.Loops.{enter-lines, lineUp-lines, takeOver-lines}
 use Rattle.store.specs.Store.{limitsOf, lineCount, marketOf}
 use Rattle.store.specs.Moves.{Moved, Tabled}
 use Rattle.store.proofs.FrameLaws.{moved-on, moved-is, moved-limits, moved-sound}
-use Rattle.store.proofs.ConnLaws.{lines-count}
+use Rattle.store.proofs.MarketLaws.{market-limits, lines-count}
 use Rattle.store.proofs.TableLaws.{tabled}
 use Rattle.output.specs.Output.{recordsWords, over}
 use Rattle.market_tick.specs.declared.Turned.{Turned}
@@ -116,7 +116,6 @@ record TurnLeft (u v : List ℕ) (t : Turned) (u₁ v₁ : List ℕ) (t₁ : Tur
 taken-left : {u v q u₁ v₁ q₁ : List ℕ} {t t₁ : Turned} {k : Work} {rs : List Expired} {b : Bool} → Ready u v (t .n) → length v₁ ≡ length v
     → Taken u v q t u₁ v₁ q₁ t₁ (begin (marketOf u)) k rs b → SoundW (holdings (marketOf u .lines), marketOf u .limits) k × (length rs ≤ 1) → Kept (length (marketOf u .lines)) k
     → TurnLeft u v t u₁ v₁ t₁
-unfolding marketOf
 taken-left {u} {v} {q} {u₁} {v₁} {q₁} {t} {t₁} {k} {rs} r l g s n =
     let a = s .0 .spent in
     let b = ap length (g .goes .out) in
@@ -131,7 +130,7 @@ taken-left {u} {v} {q} {u₁} {v₁} {q₁} {t} {t₁} {k} {rs} r l g s n =
     record {
       ready = record { sound = moved-sound (r .sound) (g .goes .moved) (s .0 .sound); room = omega arith };
       lines = omega arith;
-      limits = moved-limits (g .goes .moved) ∙ s .0 .limits;
+      limits = moved-limits (g .goes .moved) ∙ s .0 .limits ∙ market-limits u;
       few = omega arith;
     }
 
@@ -293,18 +292,16 @@ module _ (q : List ℕ) (now : ℕ) {u u₁ u₂ v : List ℕ} (r : Roomy u v) (
   upkept = moved-is refl (moved-on a b) (ap (λ (m : Market). withPrints (expirePrints now (m .prints)) m) (a .market))
 
   upkept-limits : limitsOf u₂ ≡ limitsOf u
-  unfolding marketOf
-  upkept-limits = moved-limits upkept
+  upkept-limits = moved-limits upkept ∙ market-limits u
 
   upkept-lines : lineCount u₂ ≡ lineCount u
   upkept-lines = let x = lines-count u in let y = lines-count u₂ in let z : length (marketOf u₂ .lines) ≡ length (marketOf u .lines) = ap (λ (m : Market). length (m .lines)) (upkept .market) in omega arith
 
   pub turns-ready : (answers : List ℕ) → 3 * limitsOf u .L ≤ length q → length answers ≡ lineCount u → Ready u₂ v 0 × ((3 * limitsOf u₂ .L ≤ length q) × (length answers ≡ lineCount u₂))
-  unfolding marketOf
   turns-ready answers h l =
       let x = ap (λ (m : Limits). m .L) upkept-limits in
       let y = upkept-lines in
-      (ready-begin (roomy-then r upkept refl (upkeep-sound now (marketOf u) (r .sound .market))), (omega arith, omega arith))
+      (ready-begin (roomy-then r upkept (market-limits u) (upkeep-sound now (marketOf u) (r .sound .market))), (omega arith, omega arith))
 
   pub tick-done : (u₃ v₁ q₁ answers : List ℕ) (due : Bool) (t : Turned) → length u₃ ≡ length u → due ≡ someDue (marketOf u .lines) → TurnsEnd due answers now u₂ v q u₃ v₁ q₁ t
       → Answers (tick answers now (marketOf u)) (lentAll u v q) (word done (t .n) (t .m)) (lentAll u₃ v₁ q₁)

@@ -1,2 +1,1 @@
-pub mod Pends
 pub mod Turns

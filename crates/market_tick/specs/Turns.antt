@@ -1,23 +1,23 @@
 -- What a line's turn in a tick leaves.
 use mathlib.Core.Path.{_≡_}
 use mathlib.Core.List.{List, [], _∷_}
-use mathlib.Core.Bool.{Bool, true, false, _||_, cond}
+use mathlib.Core.Bool.{Bool, true, false, not, _&&_, _||_, cond}
 use Prim.Native.Nat.{ℕ, _+_, _-_, _*_, _≤_, _<_}
-use lib.Dec.{leb, ltb}
+use lib.Dec.{ltb}
 use lib.ListN.{length}
 use Rattle.rules.specs.declared.Expired.{Expired}
 use Rattle.rules.specs.declared.Expired.the-variants as Expired
-use Rattle.rules.specs.declared.Stamp.{Stamp}
 use Rattle.rules.specs.Lists.{nil, isSome}
-use Rattle.rules.specs.Quantities.{age, stamped, quietAfter}
-use Rattle.rules.specs.Lines.{Line, Waiting, Pending, InLine, Failed, Market, events, itemsOf, isInLine, connAt}
+use Rattle.rules.specs.Lines.{Line, Market, events, itemsOf, isPending, connAt, someone}
 use Rattle.rules.specs.Calls.{Outcome, refused, did}
-use Rattle.rules.specs.Entering.{Work, aligns, tryLineUp, sweep}
-use Rattle.rules.specs.Tick.{Turn, on, stop, turns, reportAligned, quietly, quietLineUp, timeOut}
+use Rattle.rules.specs.Entering.{Work, aligns}
+use Rattle.rules.specs.Tick.{Turn, on, stop, turns, reportAligned, quietLog}
+use Rattle.lines.specs.Line.{snapshotQuiet}
 use Rattle.store.specs.Store.{lineCount, marketOf}
 use Rattle.output.specs.Output.{reportsWords, overAt}
 use Rattle.market_tick.specs.declared.Turned.{Turned}
-use Rattle.store.specs.ConnMoves.{NotFailed}
+use Rattle.market_tick.specs.declared.Way.{Way}
+use Rattle.market_tick.specs.declared.Way.the-variants as Way
 use Rattle.moves.specs.Does.{Goes, Ready}
 use Rattle.market.specs.Lent.{Lent}
 
@@ -46,10 +46,9 @@ pub record TurnRoom (u v q : List ℕ) (t : Turned) (i : ℕ) : Type 0 where
   pub reports : 3 * t .m + 3 ≤ length q
   pub here : i < lineCount u
 
--- the i-th line is neither in line nor Failed
-pub record OutOfLine (u : List ℕ) (i : ℕ) : Type 0 where
-  pub unfailed : NotFailed u i
-  pub out : isInLine ((connAt i (marketOf u)) .line) ≡ false
+-- the i-th line is pending
+abbrev pub Pends : List ℕ → ℕ → Type 0
+Pends u i = isPending ((connAt i (marketOf u)) .line) ≡ true
 
 -- a report of conn if there are more records than before: n
 pub record AlignedReport (conn n : ℕ) (q : List ℕ) (t : Turned) (q′ : List ℕ) (t′ : Turned) : Type 0 where
@@ -57,25 +56,25 @@ pub record AlignedReport (conn n : ℕ) (q : List ℕ) (t : Turned) (q′ : List
   pub records : t′ .n ≡ n
   pub goesOn : t′ .stopped ≡ false
 
--- quiet by a stamp, or by `never` where it has not come
-abbrev pub quietStamp : Stamp → ℕ → Bool → Bool
-quietStamp at now never = stamped never (λ t. leb quietAfter (age now t)) at
+-- the i-th line lined up by f, and is reported if anything was put out
+abbrev pub alignedBy : ℕ → (Work → Work) → Work → Turn
+alignedBy i f w = on (reportAligned i w (f w)) (f w)
 
--- it holds no event, or lines up quietly
-abbrev pub fitsQuietly : ℕ → Market → Bool
-fitsQuietly i m = let l = (connAt i m) .line in nil (events (itemsOf l)) || isSome (aligns true l m)
+-- a line holds no event, or lines up quietly
+abbrev pub fitsQuietly : Line → Market → Bool
+fitsQuietly l m = nil (events (itemsOf l)) || isSome (aligns true l m)
 
--- the turn of a pending line while another is in line and nothing was due
-abbrev pub followingTurn : ℕ → Bool → ℕ → Work → Line → Turn
-followingTurn i sameView now w (Pending is at since) =
-    cond (isSome (aligns false (Pending is at since) (w .market)))
-    (let w′ = sweep now (tryLineUp false i now w) in on (reportAligned i w w′) w′)
-    (cond (quietly is at since sameView now (w .market))
-    (let w′ = quietLineUp i now is w in on (reportAligned i w w′) w′)
-    (timeOut i is at since now w))
-followingTurn i sameView now w (Waiting is since) = on [] w
-followingTurn i sameView now w (InLine n a b) = on [] w
-followingTurn i sameView now w Failed = on [] w
+-- the rules' quietly, of a pending line's parts
+abbrev pub quietlyOf : Line → Bool → ℕ → Market → Bool
+quietlyOf l sameView now m = quietLog now (m .log) && snapshotQuiet now l && fitsQuietly l m && sameView
+
+-- how a pending line may line up while another is in line and nothing was due
+abbrev pub followingWay : Bool → ℕ → Market → Line → Way
+followingWay sameView now m l = cond (isSome (aligns false l m)) Way.Aligns (cond (quietlyOf l sameView now m) Way.Quietly Way.Nowhere)
+
+-- how a line may line up in its turn
+abbrev pub wayOf : Bool → Bool → ℕ → Market → Line → Way
+wayOf due sameView now m l = cond (isPending l && (someone (m .lines) && not due)) (followingWay sameView now m l) Way.Nowhere
 
 -- what all turns made of a call under way that has put nothing out yet
 abbrev pub Ended : Outcome → List ℕ → List ℕ → List ℕ → List ℕ → List ℕ → List ℕ → Turned → Work → Type 0

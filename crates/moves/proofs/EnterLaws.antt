@@ -8,27 +8,28 @@ use lib.Dec.{ltb}
 use lib.ListN.{length, getD, set}
 use lib.Seq.{getD-set-same, set-set}
 use Rattle.rules.specs.declared.Item.{Item}
-use Rattle.rules.specs.declared.Limits.{Limits}
 use Rattle.rules.specs.Quantities.{Key, printOut}
-use Rattle.rules.specs.Lists.{any, sum}
+use Rattle.rules.specs.Lists.{any}
 use Rattle.rules.specs.Log.{end}
 use Rattle.rules.specs.Prints.{appliedIn, deliveredIn, applyPrint}
 use Rattle.rules.specs.Lines.{Connection, Line, InLine, Market, connAt, nobody, itemsOf, snapshotOf, withLines, withPrints, setConn, setLine}
-use Rattle.rules.specs.Sound.{PrintsSound, holds, holdings}
+use Rattle.rules.specs.Sound.{PrintsSound}
 use Rattle.rules.specs.Entering.{Work, onMarket, putOut, putItems, release, enter, takeOver}
-use Rattle.rules.proofs.SoundMoves.{sum-set}
 use Rattle.rules.proofs.Loops.{release-lines, entered}
-use Rattle.place.specs.Items.{itemsIn}
-use Rattle.store.specs.Store.{limitsOf, headOf, lineCount, marketOf, Sized}
+use Rattle.lines.specs.declared.Line.{Line as Value}
+use Rattle.lines.specs.Line.{lineOf}
+use Rattle.lines.specs.Area.{headLine}
+use Rattle.store.specs.Store.{limitsOf, headOf, lineCount, lineWordsAt, marketOf}
 use Rattle.store.specs.Moves.{Moved}
-use Rattle.store.specs.ConnMoves.{itemsAt, LineAt, NotFailed}
+use Rattle.store.specs.ConnMoves.{itemsAt, LineAt, LineFits, NotFailed}
+use Rattle.store.proofs.MarketLaws.{market-limits, lines-count}
 use Rattle.store.proofs.FrameLaws.{moved-on, moved-is}
-use Rattle.store.proofs.EntryLaws.{entry-count, log-ends, market-limits}
 use Rattle.store.proofs.TableLaws.{tabled}
-use Rattle.store.proofs.ConnLaws.{lines-count, fits-sound, line-at-kept}
-use Rattle.moves.specs.Does.{Does, Ready, ItemsRoom, EnterRoom}
+use Rattle.store.proofs.ConnLaws.{fits-sound, line-at-kept}
+use Rattle.moves.specs.Does.{Does, Ready, EnterRoom}
 use Rattle.moves.proofs.DoesLaws.{does-then, does-market, goes-then, goes-as, goes-is}
-use Rattle.moves.proofs.StoreReads.{items-read}
+use Rattle.moves.proofs.StoreReads.{value-line}
+use Rattle.moves.proofs.RoomLaws.{roomy}
 use Rattle.moves.proofs.Staying.{Stays, line-at-stays, conn-stays, fits-stays, unfailed-stays}
 use Rattle.moves.proofs.PutLaws.{PutOut, put-out}
 use Rattle.moves.proofs.ReleaseLaws.{released, tabled-stays}
@@ -73,16 +74,16 @@ module _ {w v w₁ v₁ : List ℕ} {n n₁ : ℕ} (i : ℕ) (r : EnterRoom w v 
     pub set-ready : LineAt w₂ i
     set-ready = line-at-kept w₁ w₂ i _ m₂ i (drop-ready .0)
 
-    pub enter-done : {w₃ : List ℕ} (next : ℕ) (due0 due1 : Bool) → Moved w₂ w₃ (setLine i (InLine next due0 due1) (marketOf w₂))
-        → (entry : ℕ) → Does (enter i entry next due0 due1) w v n w₃ v₁ n₁
+    pub enter-done : {w₃ : List ℕ} (l : Value) → Moved w₂ w₃ (setLine i (lineOf l (itemsAt w₂ i)) (marketOf w₂))
+        → (entry next : ℕ) (due0 due1 : Bool) → ((u : List ℕ) → lineOf l u ≡ InLine next due0 due1) → Does (enter i entry next due0 due1) w v n w₃ v₁ n₁
     unfolding enter
-    enter-done {w₃} next due0 due1 m₃ entry k e =
+    enter-done {w₃} l m₃ entry next due0 due1 is k e =
         let line : Line = InLine next due0 due1 in
         let c : ℕ = (connAt i (marketOf w)) .conn in
         let hs : List (Key × ℕ) = (connAt i (marketOf w)) .held in
-        let at : i < length (marketOf w₁ .lines) = (let h = drop-ready .0 .here in let l = lines-count w₁ in omega arith) in
+        let at : i < length (marketOf w₁ .lines) = (let h = drop-ready .0 .here in let b = lines-count w₁ in omega arith) in
         let m : Moved w₁ w₃ (setConn i line [] (marketOf w₁)) =
-        moved-is refl (moved-on m₂ m₃) (ap (setLine i line) (m₂ .market) ∙ set-both i ((connAt i (marketOf w₁)) .line) line (marketOf w₁) at) in
+        moved-is refl (moved-on m₂ m₃) ((λ j. setLine i (is (itemsAt w₂ i) j) (m₂ .market j)) ∙ set-both i ((connAt i (marketOf w₁)) .line) line (marketOf w₁) at) in
         let room = r .prints .room in
         let g = does-then (release c hs) (onMarket (setConn i line [])) (omega arith) d (does-market (setConn i line []) m) k e in
         let ls : List Connection = entered i next due0 due1 (k .market .lines) in
@@ -95,73 +96,50 @@ module _ {w v w₁ v₁ : List ℕ} {n n₁ : ℕ} (i : ℕ) (r : EnterRoom w v 
 
 -- ---- take-over
 
--- a line of the lines
-part-of : (f : Connection → ℕ) → f nobody ≡ 0 → (ls : List Connection) (i : ℕ) → i < length ls → f (getD ls i nobody) ≤ sum f ls
-part-of f z ls i h = let k = sum-set f ls i nobody h in omega arith
-
 module _ {w v : List ℕ} {n : ℕ} (i : ℕ) (r : Ready w v n) (h : i < lineCount w) where
-  at-lines : i < length (marketOf w .lines)
-  at-lines = let l = lines-count w in omega arith
-
-  held-in : holds (connAt i (marketOf w)) ≤ holdings (marketOf w .lines)
-  held-in = part-of holds refl (marketOf w .lines) i at-lines
-
-  pub items-room : ItemsRoom w v n i
-  items-room =
-      let s = r .sound .market .lines in
-      let a = part-of (λ s. length (itemsOf (s .line))) refl (marketOf w .lines) i at-lines in
-      let b = held-in in
-      let c = entry-count w in
-      let d = log-ends w in
-      let g = ap (λ (l : Limits). l .G) (market-limits w) in
-      let x = s .logFits in
-      let y = s .numbersFit in
-      let z = r .room in
-      record { fits = fits-sound w (r .sound) i h; entries = omega arith; numbers = omega arith; room = omega arith }
-
   -- its items were put out
   module _ {w₁ v₁ : List ℕ} {n₁ : ℕ} (t : ℕ) (kept : length v₁ ≡ length v)
       (d : Does (putItems ((connAt i (marketOf w)) .conn) t (itemsOf ((connAt i (marketOf w)) .line))) w v n w₁ v₁ n₁) where
     after : PutOut w n w₁ n₁ (length (itemsOf ((connAt i (marketOf w)) .line)))
     after = put-out ((connAt i (marketOf w)) .conn) t (itemsOf ((connAt i (marketOf w)) .line)) d
 
-    pub end-ready : Sized w₁ × (headOf w₁ .base + headOf w₁ .count < 2 ^ 64)
-    end-ready = let a = after .base in let b = after .count in let c = items-room .numbers in (after .stays .sized, omega arith)
+    pub end-ready : (64 ≤ length w₁) × (headOf w₁ .base + headOf w₁ .count < 2 ^ 64)
+    end-ready = let a = after .base in let b = after .count in let c = roomy (r .sound) h .numbers in (after .stays .sized .header, omega arith)
+
+    pub line-ready : LineFits w₁ i
+    line-ready = fits-stays (after .stays) i (fits-sound w (r .sound) i h)
 
     pub enter-ready : NotFailed w i → EnterRoom w₁ v₁ n₁ i
     enter-ready u =
         let s = after .stays in
         let p : PrintsSound (limitsOf w) (marketOf w₁ .prints) = subst (PrintsSound (limitsOf w)) (sym (after .prints)) (rw (market-limits w) at (r .sound .market .prints)) in
-        let e : headOf w₁ .count ≤ limitsOf w .G = (let a = after .count in let b = items-room .entries in omega arith) in
-        let a = held-in in
+        let e : headOf w₁ .count ≤ limitsOf w .G = (let a = after .count in let b = roomy (r .sound) h .entries in omega arith) in
+        let a = roomy (r .sound) h .all in
         let b = after .records in
         let c = r .room in
         let q : length ((connAt i (marketOf w₁)) .held) ≡ length ((connAt i (marketOf w)) .held) = ap (λ (x : Connection). length (x .held)) (conn-stays s i) in
         record {
-          prints = record { tabled = tabled-stays s (tabled (r .sound)) e (end-ready .1) p; fits = fits-stays s i (items-room .fits); room = omega arith };
+          prints = record { tabled = tabled-stays s (tabled (r .sound)) e (end-ready .1) p; fits = line-ready; room = omega arith };
           unfailed = unfailed-stays s i u;
         }
 
-    pub take-over-done : {w₂ v₂ : List ℕ} {n₂ : ℕ} (next : ℕ) (due0 due1 : Bool) → next ≡ end (marketOf w₁ .log)
-        → due0 ≡ not (any (snapshotOf 0) (itemsOf ((connAt i (marketOf w)) .line))) → due1 ≡ not (any (snapshotOf 1) (itemsOf ((connAt i (marketOf w)) .line)))
-        → ((entry : ℕ) → Does (enter i entry next due0 due1) w₁ v₁ n₁ w₂ v₂ n₂)
+    -- it holds what it held
+    pub taken-items : {l : Value} → l ≡ headLine (lineWordsAt w₁ i) → {is : List ℕ} → is ≡ itemsAt w₁ i → itemsOf (lineOf l is) ≡ itemsOf ((connAt i (marketOf w)) .line)
+    taken-items q p = ap itemsOf (value-line w₁ i line-ready q p) ∙ ap (λ (x : Connection). itemsOf (x .line)) (conn-stays (after .stays) i)
+
+    pub take-over-done : {w₂ v₂ : List ℕ} {n₂ : ℕ} (next : ℕ) (is : List Item) → next ≡ end (marketOf w₁ .log) → is ≡ itemsOf ((connAt i (marketOf w)) .line)
+        → ((entry : ℕ) → Does (enter i entry next (not (any (snapshotOf 0) is)) (not (any (snapshotOf 1) is))) w₁ v₁ n₁ w₂ v₂ n₂)
         → Does (takeOver i (itemsOf ((connAt i (marketOf w)) .line)) t) w v n w₂ v₂ n₂
     unfolding takeOver
-    take-over-done next due0 due1 q x y f k e =
+    take-over-done next js q x f k e =
         let is : List Item = itemsOf ((connAt i (marketOf w)) .line) in
         let c : ℕ = (connAt i (marketOf w)) .conn in
-        let room = items-room .room in
+        let room = r .room in
         let one = d k e in
         let k₁ : Work = putItems c t is k in
         let m : marketOf w₁ ≡ k₁ .market = one .moved .market in
         let g = goes-then (omega arith) one (f (end (k .market .log)) k₁ (sym m)) in
         goes-is
-        ((λ j. enter i (end (k .market .log)) ((q ∙ ap (λ (z : Market). end (z .log)) m) j) (x j) (y j) k₁)
+        ((λ j. enter i (end (k .market .log)) ((q ∙ ap (λ (z : Market). end (z .log)) m) j) (not (any (snapshotOf 0) (x j))) (not (any (snapshotOf 1) (x j))) k₁)
         ∙ ap (λ (a : ℕ). enter i (end (k .market .log)) (end ((putItems a t is k) .market .log)) (not (any (snapshotOf 0) is)) (not (any (snapshotOf 1) is)) (putItems a t is k)) (sym (ap (λ (z : Market). (connAt i z) .conn) e)))
         g
-
--- a snapshot of a token is held or not, by the words of the items
-pub due-said : (w : List ℕ) (i : ℕ) → i < lineCount w → (token held : ℕ) (xs : List ℕ) (b : Bool) → held ≡ length (itemsOf ((connAt i (marketOf w)) .line)) → xs ≡ itemsAt w i
-    → b ≡ any (snapshotOf token) (itemsIn held xs) → not b ≡ not (any (snapshotOf token) (itemsOf ((connAt i (marketOf w)) .line)))
-due-said w i h token held xs b p q e =
-    ap not (e ∙ (λ j. any (snapshotOf token) (itemsIn (p j) (q j))) ∙ ap (any (snapshotOf token)) (sym (items-read w i h)))

@@ -2,6 +2,7 @@ pub mod DoesLaws
 pub mod LeftLaws
 pub mod StoreReads
 pub mod LiningReads
+pub mod RoomLaws
 pub mod EnteringLaws
 pub mod Staying
 pub mod PutLaws

@@ -1,4 +1,4 @@
--- Laws of a line-up: there is room for what the line holds, and what it does is what the rules say.
+-- Laws of a line-up: the line may enter line behind it, and what it does is what the rules say.
 use mathlib.Core.Path.{_≡_, refl, sym, ap, _∙_, subst}
 use mathlib.Core.List.{List}
 use mathlib.Core.Bool.{true, false}
@@ -9,48 +9,21 @@ use lib.Seq.{drop-drop}
 use Rattle.rules.specs.declared.Limits.{Limits}
 use Rattle.rules.specs.Log.{end}
 use Rattle.rules.specs.Prints.{Prints}
-use Rattle.rules.specs.Lines.{Line, Waiting, Pending, InLine, Failed, Connection, Market, connAt, nobody, itemsOf, events, isPending, isFailed}
+use Rattle.rules.specs.Lines.{Line, Waiting, Pending, InLine, Failed, Connection, Market, connAt, itemsOf, events, isPending, isFailed}
 use Rattle.rules.specs.Entering.{Work, pushAll, enter, lineUp}
-use Rattle.rules.specs.Sound.{TablesSound, holds, holdings}
+use Rattle.rules.specs.Sound.{TablesSound}
 use Rattle.rules.proofs.Tests.{ff≢tt}
-use Rattle.rules.proofs.SoundMoves.{sum-set, events-le}
-use Rattle.store.specs.Store.{limitsOf, headOf, lineCount, marketOf, Sound}
+use Rattle.store.specs.Store.{limitsOf, headOf, marketOf}
 use Rattle.store.specs.Moves.{Counts}
-use Rattle.store.proofs.ConnLaws.{lines-count, fits-sound}
-use Rattle.store.proofs.EntryLaws.{entry-count, log-ends, key-count, pair-count, market-limits, counts}
+use Rattle.store.proofs.MarketLaws.{market-base, entry-count, log-ends, key-count, pair-count}
+use Rattle.store.proofs.EntryLaws.{counts}
+use Rattle.store.proofs.ConnLaws.{fits-sound}
 use Rattle.store.proofs.TableLaws.{tabled}
-use Rattle.moves.specs.Does.{Does, Ready, ItemsRoom, EnterRoom}
+use Rattle.moves.specs.Does.{Does, Ready, EnterRoom}
 use Rattle.moves.specs.Places.{AtPlace}
 use Rattle.moves.proofs.DoesLaws.{does-as, does-then}
-use Rattle.moves.proofs.LiningReads.{entry-base}
+use Rattle.moves.proofs.RoomLaws.{roomy}
 use Rattle.moves.proofs.PushLaws.{Logged, logged, conn-kept, lines-kept, fits-kept}
-
--- a sound store has room for what its i-th line holds
-pub record Roomy (w : List ℕ) (i : ℕ) : Type 0 where
-  pub entries : headOf w .count + length (itemsOf ((connAt i (marketOf w)) .line)) ≤ limitsOf w .G
-  pub numbers : headOf w .base + headOf w .count + length (itemsOf ((connAt i (marketOf w)) .line)) < 2 ^ 64
-  pub all : length (itemsOf ((connAt i (marketOf w)) .line)) + length ((connAt i (marketOf w)) .held) ≤ holdings (marketOf w .lines)
-  pub few : length (events (itemsOf ((connAt i (marketOf w)) .line))) ≤ length (itemsOf ((connAt i (marketOf w)) .line))
-
-pub roomy : {w : List ℕ} {i : ℕ} → Sound w → i < lineCount w → Roomy w i
-roomy {w} {i} s h =
-    let ls = marketOf w .lines in
-    let b = lines-count w in
-    let x = sum-set (λ (c : Connection). length (itemsOf (c .line))) ls i nobody (omega arith) in
-    let y = sum-set holds ls i nobody (omega arith) in
-    let c = entry-count w in
-    let d = entry-base w in
-    let g = ap (λ (l : Limits). l .G) (market-limits w) in
-    let e = s .market .lines .logFits in
-    let f = s .market .lines .numbersFit in
-    record { entries = omega arith; numbers = omega arith; all = omega arith; few = events-le (itemsOf ((connAt i (marketOf w)) .line)) }
-
-pub items-room : {w v : List ℕ} {n i : ℕ} → Ready w v n → i < lineCount w → ItemsRoom w v n i
-items-room {w} {v} {n} {i} r h =
-    let a = roomy (r .sound) h in
-    let o = r .room in
-    let x = a .all in
-    record { fits = fits-sound w (r .sound) i h; entries = a .entries; numbers = a .numbers; room = omega arith }
 
 pending-stays : (l : Line) → isPending l ≡ true → isFailed l ≡ false
 pending-stays (Waiting is since) e = refl
@@ -119,7 +92,7 @@ module _ {w v : List ℕ} {n i j p : ℕ} (r : Ready w v n) (a : AtPlace w i j p
       let z = r .room in
       does-as (λ k. enter i (b + x) (p + (m - j)) false false (push k)) (lineUp i t (j, x))
       (λ k h.
-      let base : b ≡ k .market .log .base = sym (entry-base w) ∙ ap (λ (y : Market). y .log .base) (sym h) in
+      let base : b ≡ k .market .log .base = sym (market-base w) ∙ ap (λ (y : Market). y .log .base) (sym h) in
       let conn : s .conn ≡ (connAt i (k .market)) .conn = ap (λ (y : Market). (connAt i y) .conn) (sym h) in
       let held : es ≡ events (itemsOf ((connAt i (k .market)) .line)) = ap (λ (y : Market). events (itemsOf ((connAt i y) .line))) (sym h) in
       let count : length (k .market .log .entries) ≡ headOf w .count = ap (λ (y : Market). length (y .log .entries)) h ∙ entry-count w in

@@ -26,13 +26,11 @@ use Rattle.place.specs.declared.Place.{Place}
 use Rattle.place.specs.declared.Place.the-variants as Place
 use Rattle.place.specs.Items.{placeOf}
 use Rattle.store.specs.Store.{headOf, lineCount, marketOf}
-use Rattle.store.proofs.ConnLaws.{lines-count}
-use Rattle.store.proofs.EntryLaws.{entry-count}
+use Rattle.store.proofs.MarketLaws.{market-base, entry-count, lines-count}
 use Rattle.moves.specs.Does.{Does, Ready}
 use Rattle.moves.specs.Places.{AtPlace}
 use Rattle.moves.proofs.DoesLaws.{does-as, does-none, ready-then}
 use Rattle.moves.proofs.LeftLaws.{Left, left-start, left-then, left-done}
-use Rattle.moves.proofs.LiningReads.{entry-base}
 
 -- ---- a place
 
@@ -84,7 +82,7 @@ bounded quiet (Pending is at since) m p e =
     un true h = absurd (none≢some h)
     un false h = h
 
--- what place_of answers
+-- what alignment answers
 abbrev pub placeIn : Bool → ℕ → List ℕ → Place
 placeIn quiet i w = placeOf (marketOf w .log .base) (aligns quiet ((connAt i (marketOf w)) .line) (marketOf w))
 
@@ -95,7 +93,7 @@ module _ {w v : List ℕ} {n : ℕ} (quiet : Bool) (i t : ℕ) where
       let b = bounded quiet ((connAt i (marketOf w)) .line) (marketOf w) (j, p - marketOf w .log .base) (q .0) in
       let a = b .entry in
       let c = entry-count w in
-      let d = entry-base w in
+      let d = market-base w in
       let f = q .1 in
       (r, record { here = h; pending = b .pending; event = b .event; from = omega arith; upto = omega arith })
 
@@ -104,7 +102,7 @@ module _ {w v : List ℕ} {n : ℕ} (quiet : Bool) (i t : ℕ) where
   lined-up j p e d = does-as (lineUp i t (j, p - headOf w .base)) (tryLineUp quiet i t)
       (λ k m. let q : aligns quiet ((connAt i (k .market)) .line) (k .market) ≡ some (j, p - headOf w .base) =
       ap (λ (x : Market). aligns quiet ((connAt i x) .line) x) m ∙ placed (marketOf w .log .base) j p (aligns quiet ((connAt i (marketOf w)) .line) (marketOf w)) e .0
-      ∙ ap (λ (b : ℕ). some (j, p - b)) (entry-base w) in rw q) d
+      ∙ ap (λ (b : ℕ). some (j, p - b)) (market-base w) in rw q) d
 
   pub not-lined-up : Ready w v n → Place.Nowhere ≡ placeIn quiet i w → Does (tryLineUp quiet i t) w v n w v n
   unfolding tryLineUp

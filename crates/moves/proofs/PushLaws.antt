@@ -17,13 +17,12 @@ use Rattle.place.specs.Items.{itemIn}
 use Rattle.place.proofs.Items.{items-drop}
 use Rattle.store.specs.Store.{limitsOf, headOf, lineCount, marketOf, Sized}
 use Rattle.store.specs.ConnMoves.{itemsAt, LineFits}
+use Rattle.store.proofs.MarketLaws.{market-limits, market-base, entry-count, lines-count}
 use Rattle.store.proofs.FrameLaws.{moved-limits}
-use Rattle.store.proofs.ConnLaws.{lines-count}
-use Rattle.store.proofs.EntryLaws.{entry-count, market-limits}
+use Rattle.store.proofs.ConnLaws.{items-said}
 use Rattle.moves.specs.Does.{Does, PushRoom, ItemsRoom}
 use Rattle.moves.proofs.DoesLaws.{does-as, does-none}
 use Rattle.moves.proofs.LeftLaws.{Left, left-start, left-then, left-done}
-use Rattle.moves.proofs.LiningReads.{entry-base, items-said}
 
 -- ---- one item
 
@@ -91,7 +90,7 @@ logged {w} {v} {n} {w₁} {v₁} {n₁} c t es d =
       limits = moved-limits (g .moved) ∙ p .limits ∙ market-limits w;
       prints = ap (λ (x : Market). x .prints) m ∙ p .prints;
       lines = ap (λ (x : Market). x .lines) m ∙ p .lines;
-      base = sym (entry-base w₁) ∙ ap (λ (x : Market). x .log .base) m ∙ p .base ∙ entry-base w;
+      base = sym (market-base w₁) ∙ ap (λ (x : Market). x .log .base) m ∙ p .base ∙ market-base w;
       count = sym (entry-count w₁) ∙ ap (λ (x : Market). length (x .log .entries)) m ∙ p .entries ∙ ap (λ (x : ℕ). x + length es) (entry-count w);
       records = (let x = g .count in let y = p .out in omega arith);
     }

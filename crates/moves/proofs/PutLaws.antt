@@ -15,11 +15,11 @@ use Rattle.rules.proofs.SoundMoves.{putItems-pushed, events-le}
 use Rattle.place.specs.Items.{itemIn}
 use Rattle.store.specs.Store.{limitsOf, headOf, marketOf, Sized}
 use Rattle.store.specs.ConnMoves.{itemsAt, LineFits}
+use Rattle.store.proofs.MarketLaws.{market-limits, entry-count, log-ends}
 use Rattle.store.proofs.FrameLaws.{moved-limits}
-use Rattle.store.proofs.EntryLaws.{entry-count, log-ends, market-limits}
+use Rattle.store.proofs.ConnLaws.{item-said}
 use Rattle.moves.specs.Does.{Does, PushRoom, ItemsRoom}
 use Rattle.moves.proofs.DoesLaws.{does-then, does-as, does-none}
-use Rattle.moves.proofs.StoreReads.{item-read}
 use Rattle.moves.proofs.Staying.{Stays, conn-stays, fits-stays}
 
 pub put-append : (c t : ℕ) (is js : List Item) (k : Work) → putItems c t js (putItems c t is k) ≡ putItems c t (is ++ js) k
@@ -95,7 +95,7 @@ module _ {w v w₁ v₁ : List ℕ} {n n₁ : ℕ} (i t j : ℕ) (r : ItemsRoom 
       let is : List Item = itemsOf ((connAt i (marketOf w)) .line) in
       let a : ℕ = (connAt i (marketOf w)) .conn in
       let at : getD is j item ≡ item =
-      ap (λ (s : Connection). getD (itemsOf (s .line)) j item) (sym (conn-stays (so-far .stays) i)) ∙ item-read w₁ i (item-ready .0 .at .here) j item (item-ready .1) ∙ sym e in
+      ap (λ (s : Connection). getD (itemsOf (s .line)) j item) (sym (conn-stays (so-far .stays) i)) ∙ item-said w₁ i (item-ready .0 .at .here) j item (item-ready .1) ∙ sym e in
       let more : take j is ++ (item ∷ []) ≡ take (j + 1) is = sym (rw (add-one, take-suc is j item h, at)) in
       let room = r .room in
       does-as (λ k. putItems c t (item ∷ []) (putItems a t (take j is) k)) (putItems a t (take (j + 1) is))

@@ -18,8 +18,8 @@ use Rattle.lines.specs.Area.{noPrint}
 use Rattle.store.specs.Store.{limitsOf, headOf, marketOf, Sized}
 use Rattle.store.specs.Moves.{Tabled}
 use Rattle.store.specs.ConnMoves.{LineFits}
+use Rattle.store.proofs.MarketLaws.{market-limits, entry-count, log-ends, key-count, pair-count, lines-count}
 use Rattle.store.proofs.FrameLaws.{moved-limits}
-use Rattle.store.proofs.EntryLaws.{entry-count, log-ends, line-count, key-count, pair-count, market-limits}
 use Rattle.moves.specs.Does.{Does, PrintsRoom}
 use Rattle.moves.proofs.DoesLaws.{does-then, does-as, does-none}
 use Rattle.moves.proofs.Staying.{Stays, conn-stays, fits-stays}
@@ -51,8 +51,8 @@ tabled-stays {w} {w₁} s t e n p =
     let C = ap (λ (x : Limits). x .C) l in
     let D = ap (λ (x : Limits). x .D) l in
     let ls = ap length (s .lines) in
-    let a = line-count w in
-    let b = line-count w₁ in
+    let a = lines-count w in
+    let b = lines-count w₁ in
     let f = t .counts .lines in
     record {
       sized = s .sized;

@@ -7,7 +7,7 @@ use Rattle.rules.specs.declared.Limits.{Limits}
 use Rattle.rules.specs.Lines.{Connection, connAt, nobody}
 use Rattle.store.specs.Store.{limitsOf, lineCount, marketOf, Sized}
 use Rattle.store.specs.ConnMoves.{LineAt, LineFits, NotFailed}
-use Rattle.store.proofs.ConnLaws.{lines-count}
+use Rattle.store.proofs.MarketLaws.{lines-count}
 
 pub record Stays (w w₁ : List ℕ) : Type 0 where
   pub sized : Sized w₁

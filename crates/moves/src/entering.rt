@@ -5,11 +5,15 @@ use rules::Applied;
 use rules::EventKey;
 use rules::Item;
 use rules::Kind;
-ghost use mathlib.Core.List.{[], _∷_};
+ghost use mathlib.Core.Path.{_≡_};
+ghost use mathlib.Core.List.{List, [], _∷_};
+ghost use mathlib.Core.Bool.{Bool};
 ghost use Prim.Native.Nat.{ℕ, _+_, _*_, _≤_, _<_};
 ghost use lib.ListN.{length};
+ghost use Rattle.rules.specs.Lines as Rules;
 ghost use Rattle.rules.specs.Lines.{connAt, itemsOf};
 ghost use Rattle.rules.specs.Entering.{pushOut, putItems, release, enter, takeOver};
+ghost use Rattle.lines.specs.Line.{lineOf};
 ghost use Rattle.store.specs.Store.{lineCount, marketOf, Sized};
 ghost use Rattle.store.specs.Moves.{Tabled};
 ghost use Rattle.store.specs.ConnMoves.{NotFailed};
@@ -28,7 +32,7 @@ pub fn push_out(
     requires { ⌜ PushRoom (now s) (now out) n ⌝ }
     ensures { λ r. ⌜ Does (pushOut conn t key message) (now (s .entry)) (now (out .entry)) n (now (s .exit)) (now (out .exit)) r ⌝ }
 {
-    let number = crate::reads::end(s);
+    let number = store::entries::end(s);
     store::entries::push(s, key, t);
     let record = Applied {
         conn,
@@ -82,11 +86,11 @@ fn put_items(s: &mut [u64], out: &mut [u64], n: usize, i: usize, t: u64) -> usiz
     ensures { λ r. ⌜ Does (putItems ((connAt i (marketOf (now (s .entry)))) .conn) t (itemsOf ((connAt i (marketOf (now (s .entry)))) .line))) (now (s .entry)) (now (out .entry)) n (now (s .exit)) (now (out .exit)) r ⌝ }
 {
     let conn = store::conns::conn_at(s, i);
-    let held = crate::reads::held(s, i);
+    let held = store::conns::held(s, i);
     let mut m = n;
     let mut j = 0;
     while j < held {
-        let item = crate::reads::item_at(s, i, j);
+        let item = store::conns::item_at(s, i, j);
         m = put_item(s, out, m, conn, t, item);
         j += 1;
     }
@@ -117,12 +121,12 @@ fn release_print(s: &mut [u64], out: &mut [u64], n: usize, conn: u64, print: Hel
 }
 
 // Puts the i-th line's held prints out.
-fn release(s: &mut [u64], out: &mut [u64], n: usize, i: usize) -> usize
+fn release_prints(s: &mut [u64], out: &mut [u64], n: usize, i: usize) -> usize
     requires { ⌜ PrintsRoom (now s) (now out) n i ⌝ }
     ensures { λ r. ⌜ Does (release ((connAt i (marketOf (now (s .entry)))) .conn) ((connAt i (marketOf (now (s .entry)))) .held)) (now (s .entry)) (now (out .entry)) n (now (s .exit)) (now (out .exit)) r ⌝ }
 {
     let conn = store::conns::conn_at(s, i);
-    let held = crate::reads::prints_held(s, i);
+    let held = store::conns::prints_held(s, i);
     let mut m = n;
     let mut j = 0;
     while j < held {
@@ -133,22 +137,14 @@ fn release(s: &mut [u64], out: &mut [u64], n: usize, i: usize) -> usize
     m
 }
 
-// The i-th line enters line, and its held prints are released.
-pub fn enter(
-    s: &mut [u64],
-    out: &mut [u64],
-    n: usize,
-    i: usize,
-    next: u64,
-    due0: bool,
-    due1: bool,
-) -> usize
+// The i-th line enters line as this one in line, and its held prints are released.
+pub fn enter(s: &mut [u64], out: &mut [u64], n: usize, i: usize, line: Line) -> usize
     requires { ⌜ EnterRoom (now s) (now out) n i ⌝ }
-    ensures { λ r. ⌜ ((entry : ℕ) → Does (enter i entry next due0 due1) (now (s .entry)) (now (out .entry)) n (now (s .exit)) (now (out .exit)) r) ⌝ }
+    ensures { λ r. ⌜ ((entry next : ℕ) (a b : Bool) → ((w : List ℕ) → lineOf line w ≡ Rules.InLine next a b) → Does (enter i entry next a b) (now (s .entry)) (now (out .entry)) n (now (s .exit)) (now (out .exit)) r) ⌝ }
 {
-    let m = release(s, out, n, i);
+    let m = release_prints(s, out, n, i);
     store::conns::drop_prints(s, i);
-    store::conns::set_line(s, i, Line::InLine { next, due0, due1 });
+    store::conns::set_line(s, i, line);
     m
 }
 
@@ -157,10 +153,8 @@ pub fn take_over(s: &mut [u64], out: &mut [u64], n: usize, i: usize, t: u64) -> 
     requires { ⌜ (Ready (now s) (now out) n) × ((i < lineCount (now s)) × (NotFailed (now s) i)) ⌝ }
     ensures { λ r. ⌜ Does (takeOver i (itemsOf ((connAt i (marketOf (now (s .entry)))) .line)) t) (now (s .entry)) (now (out .entry)) n (now (s .exit)) (now (out .exit)) r ⌝ }
 {
-    let held = crate::reads::held(s, i);
-    let due0 = !place::holds_token(crate::reads::items(s, i), held, 0);
-    let due1 = !place::holds_token(crate::reads::items(s, i), held, 1);
     let m = put_items(s, out, n, i, t);
-    let next = crate::reads::end(s);
-    enter(s, out, m, i, next, due0, due1)
+    let next = store::entries::end(s);
+    let line = store::conns::line_at(s, i).taken_over(store::conns::items(s, i), next);
+    enter(s, out, m, i, line)
 }

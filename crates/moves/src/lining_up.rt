@@ -1,4 +1,5 @@
 // Line-up, and the sweep that tries it with every pending line.
+use lines::Line;
 use place::Place;
 use rules::Item;
 ghost use mathlib.Core.Path.{_≡_};
@@ -45,11 +46,11 @@ fn push_events(s: &mut [u64], out: &mut [u64], n: usize, i: usize, t: u64, skip:
     ensures { λ r. ⌜ Does (pushAll ((connAt i (marketOf (now (s .entry)))) .conn) t (drop skip (events (itemsOf ((connAt i (marketOf (now (s .entry)))) .line))))) (now (s .entry)) (now (out .entry)) n (now (s .exit)) (now (out .exit)) r ⌝ }
 {
     let conn = store::conns::conn_at(s, i);
-    let held = crate::reads::held(s, i);
+    let held = store::conns::held(s, i);
     let mut past = Past { n, skip };
     let mut j = 0;
     while j < held {
-        let item = crate::reads::item_at(s, i, j);
+        let item = store::conns::item_at(s, i, j);
         past = push_past(s, out, past, conn, t, item);
         j += 1;
     }
@@ -61,19 +62,19 @@ fn line_up(s: &mut [u64], out: &mut [u64], n: usize, i: usize, t: u64, j: usize,
     requires { ⌜ (Ready (now s) (now out) n) × (AtPlace (now s) i j p) ⌝ }
     ensures { λ r. ⌜ Does (lineUp i t (j, p - headOf (now (s .entry)) .base)) (now (s .entry)) (now (out .entry)) n (now (s .exit)) (now (out .exit)) r ⌝ }
 {
-    let behind = (crate::reads::end(s) - p) as usize;
+    let behind = (store::entries::end(s) - p) as usize;
     let events = crate::reads::events_held(s, i);
     let next = p + (events - j) as u64;
     let m = push_events(s, out, n, i, t, j + behind);
-    crate::entering::enter(s, out, m, i, next, false, false)
+    crate::entering::enter(s, out, m, i, Line::lined_up(next))
 }
 
 // The i-th line lines up, if it can.
-pub fn try_line_up(s: &mut [u64], out: &mut [u64], n: usize, i: usize, t: u64, quiet: bool) -> usize
+pub fn try_align(s: &mut [u64], out: &mut [u64], n: usize, i: usize, t: u64, quiet: bool) -> usize
     requires { ⌜ (Ready (now s) (now out) n) × (i < lineCount (now s)) ⌝ }
     ensures { λ r. ⌜ Does (tryLineUp quiet i t) (now (s .entry)) (now (out .entry)) n (now (s .exit)) (now (out .exit)) r ⌝ }
 {
-    let place = crate::reads::place_of(s, i, quiet);
+    let place = crate::reads::alignment(s, i, quiet);
     match place {
         Place::At(j, p) => line_up(s, out, n, i, t, j, p),
         Place::Nowhere => n,
@@ -85,27 +86,27 @@ fn round(s: &mut [u64], out: &mut [u64], n: usize, t: u64) -> usize
     requires { ⌜ Ready (now s) (now out) n ⌝ }
     ensures { λ r. ⌜ Does (round (lineCount (now (s .entry))) 0 t) (now (s .entry)) (now (out .entry)) n (now (s .exit)) (now (out .exit)) r ⌝ }
 {
-    let lines = s[9] as usize;
+    let lines = store::conns::count(s);
     let mut m = n;
     let mut i = 0;
     while i < lines {
-        m = try_line_up(s, out, m, i, t, false);
+        m = try_align(s, out, m, i, t, false);
         i += 1;
     }
     m
 }
 
 // Rounds until one lines nobody up.
-pub fn sweep(s: &mut [u64], out: &mut [u64], n: usize, t: u64) -> usize
+pub fn align_pending(s: &mut [u64], out: &mut [u64], n: usize, t: u64) -> usize
     requires { ⌜ Ready (now s) (now out) n ⌝ }
     ensures { λ r. ⌜ Does (sweep t) (now (s .entry)) (now (out .entry)) n (now (s .exit)) (now (out .exit)) r ⌝ }
 {
     let mut m = n;
-    let mut pending = crate::reads::pendings(s);
+    let mut pending = store::conns::pendings(s);
     let mut again = true;
     while again {
         m = round(s, out, m, t);
-        let left = crate::reads::pendings(s);
+        let left = store::conns::pendings(s);
         again = left != pending;
         pending = left;
     }

@@ -1,13 +1,14 @@
 -- Put-out records and tick reports as words of a lent list.
 use mathlib.Core.List.{List, [], _∷_, _++_}
 use Prim.Native.Nat.{ℕ, zero, suc}
-use lib.ListN.{length, getD, take, drop}
+use lib.ListN.{getD, take, drop}
 use Rattle.rules.specs.declared.Kind.{Kind}
 use Rattle.rules.specs.declared.Kind.the-variants as Kind
 use Rattle.rules.specs.declared.Applied.{Applied}
 use Rattle.rules.specs.declared.Expired.{Expired}
 use Rattle.rules.specs.declared.Expired.the-variants as Expired
 use Rattle.rules.specs.Quantities.{key}
+pub use Rattle.words.specs.Words.{over}
 
 -- a put-out record is seven words: connection, kind (0 snapshot, 1 book, 2 print), number, key, key, message, times
 abbrev pub kindWord : Kind → ℕ
@@ -52,10 +53,6 @@ recordOf v =
 unfoldable pub recordsIn : ℕ → List ℕ → List Applied
 recordsIn zero v = []
 recordsIn (suc n) v = recordOf v ∷ recordsIn n (drop 7 v)
-
--- written over the front of a list; places past it stay
-abbrev pub over : List ℕ → List ℕ → List ℕ
-over xs v = xs ++ drop (length xs) v
 
 -- written over a list from place a on
 abbrev pub overAt : ℕ → List ℕ → List ℕ → List ℕ

@@ -10,14 +10,15 @@ ghost use Rattle.store.specs.Store.{marketOf, Sound};
 ghost use Rattle.market.specs.Lent.{lent, alone};
 ghost use Rattle.market_tick.specs.Turns.{lentAll};
 ghost use Rattle.steps.specs.Steps.{Steps, records, reportRoom};
-ghost use Rattle.codes.specs.Told.{told};
+ghost use Rattle.codes.specs.Told.{Tells, Telling};
 ghost use Rattle.batch.specs.Batch.{Leaves, lists, ran};
-ghost use Rattle.batch.specs.Told.{toldBatched};
+ghost use Rattle.batch.specs.Told.{TellsBatched};
 
 #[no_mangle]
 pub extern "C" fn owned_subscribe(s: &mut [u64], conn: u64, t: u64, count: &mut u64) -> u64
     requires { ⌜ Sound (now s) ⌝ }
-    ensures { λ r. ⌜ Steps (Subscribe conn t) (alone (now (s .entry))) (told r (now (count .exit)) 0) (alone (now (s .exit))) ⌝ }
+    ensures { λ r. ⌜ Telling (λ a. Tells a r (now (count .exit)) 0)
+        (λ a. Steps (Subscribe conn t) (alone (now (s .entry))) a (alone (now (s .exit)))) ⌝ }
 {
     let a = steps::subscribe(s, conn, t);
     let told = codes::of_changed(a);
@@ -36,7 +37,9 @@ pub extern "C" fn owned_snapshot(
     count: &mut u64,
 ) -> u64
     requires { ⌜ Sound (now s) ⌝ }
-    ensures { λ r. ⌜ Steps (Snapshot conn token message t (records (now (out .entry)))) (lent (now (s .entry)) (now (out .entry))) (told r (now (count .exit)) 0) (lent (now (s .exit)) (now (out .exit))) ⌝ }
+    ensures { λ r. ⌜ Telling (λ a. Tells a r (now (count .exit)) 0)
+        (λ a. Steps (Snapshot conn token message t (records (now (out .entry))))
+        (lent (now (s .entry)) (now (out .entry))) a (lent (now (s .exit)) (now (out .exit)))) ⌝ }
 {
     let a = steps::snapshot(s, out, conn, token, message, t);
     let told = codes::of_step(a);
@@ -56,7 +59,9 @@ pub extern "C" fn owned_book_event(
     count: &mut u64,
 ) -> u64
     requires { ⌜ Sound (now s) ⌝ }
-    ensures { λ r. ⌜ Steps (BookEvent conn (key key0 key1) message t (records (now (out .entry)))) (lent (now (s .entry)) (now (out .entry))) (told r (now (count .exit)) 0) (lent (now (s .exit)) (now (out .exit))) ⌝ }
+    ensures { λ r. ⌜ Telling (λ a. Tells a r (now (count .exit)) 0)
+        (λ a. Steps (BookEvent conn (key key0 key1) message t (records (now (out .entry))))
+        (lent (now (s .entry)) (now (out .entry))) a (lent (now (s .exit)) (now (out .exit)))) ⌝ }
 {
     let key = EventKey(key0, key1);
     let a = steps::book_event(s, out, conn, key, message, t);
@@ -77,7 +82,9 @@ pub extern "C" fn owned_print(
     count: &mut u64,
 ) -> u64
     requires { ⌜ Sound (now s) ⌝ }
-    ensures { λ r. ⌜ Steps (Print conn (key key0 key1) message t (records (now (out .entry)))) (lent (now (s .entry)) (now (out .entry))) (told r (now (count .exit)) 0) (lent (now (s .exit)) (now (out .exit))) ⌝ }
+    ensures { λ r. ⌜ Telling (λ a. Tells a r (now (count .exit)) 0)
+        (λ a. Steps (Print conn (key key0 key1) message t (records (now (out .entry))))
+        (lent (now (s .entry)) (now (out .entry))) a (lent (now (s .exit)) (now (out .exit)))) ⌝ }
 {
     let key = EventKey(key0, key1);
     let a = steps::other(s, out, conn, key, message, t);
@@ -95,7 +102,9 @@ pub extern "C" fn owned_drop(
     count: &mut u64,
 ) -> u64
     requires { ⌜ Sound (now s) ⌝ }
-    ensures { λ r. ⌜ Steps (Drop conn t (records (now (out .entry)))) (lent (now (s .entry)) (now (out .entry))) (told r (now (count .exit)) 0) (lent (now (s .exit)) (now (out .exit))) ⌝ }
+    ensures { λ r. ⌜ Telling (λ a. Tells a r (now (count .exit)) 0)
+        (λ a. Steps (Drop conn t (records (now (out .entry))))
+        (lent (now (s .entry)) (now (out .entry))) a (lent (now (s .exit)) (now (out .exit)))) ⌝ }
 {
     let a = steps::drop_conn(s, out, conn, t);
     let told = codes::of_lost(a);
@@ -106,7 +115,9 @@ pub extern "C" fn owned_drop(
 #[no_mangle]
 pub extern "C" fn owned_promote(s: &mut [u64], out: &mut [u64], t: u64, count: &mut u64) -> u64
     requires { ⌜ Sound (now s) ⌝ }
-    ensures { λ r. ⌜ Steps (Promote t (records (now (out .entry)))) (lent (now (s .entry)) (now (out .entry))) (told r (now (count .exit)) 0) (lent (now (s .exit)) (now (out .exit))) ⌝ }
+    ensures { λ r. ⌜ Telling (λ a. Tells a r (now (count .exit)) 0)
+        (λ a. Steps (Promote t (records (now (out .entry))))
+        (lent (now (s .entry)) (now (out .entry))) a (lent (now (s .exit)) (now (out .exit)))) ⌝ }
 {
     let a = steps::promote(s, out, t);
     let told = codes::of_lost(a);
@@ -117,7 +128,8 @@ pub extern "C" fn owned_promote(s: &mut [u64], out: &mut [u64], t: u64, count: &
 #[no_mangle]
 pub extern "C" fn owned_reset(s: &mut [u64], t: u64, count: &mut u64) -> u64
     requires { ⌜ Sound (now s) ⌝ }
-    ensures { λ r. ⌜ Steps (Reset t) (alone (now (s .entry))) (told r (now (count .exit)) 0) (alone (now (s .exit))) ⌝ }
+    ensures { λ r. ⌜ Telling (λ a. Tells a r (now (count .exit)) 0)
+        (λ a. Steps (Reset t) (alone (now (s .entry))) a (alone (now (s .exit)))) ⌝ }
 {
     let a = steps::reset(s, t);
     let told = codes::of_changed(a);
@@ -136,7 +148,10 @@ pub extern "C" fn owned_tick(
     reported: &mut u64,
 ) -> u64
     requires { ⌜ Sound (now s) ⌝ }
-    ensures { λ r. ⌜ Steps (Tick (now (answers .entry)) t (records (now (out .entry))) (reportRoom (now (reports .entry)))) (lentAll (now (s .entry)) (now (out .entry)) (now (reports .entry))) (told r (now (count .exit)) (now (reported .exit))) (lentAll (now (s .exit)) (now (out .exit)) (now (reports .exit))) ⌝ }
+    ensures { λ r. ⌜ Telling (λ a. Tells a r (now (count .exit)) (now (reported .exit)))
+        (λ a. Steps (Tick (now (answers .entry)) t (records (now (out .entry))) (reportRoom (now (reports .entry))))
+        (lentAll (now (s .entry)) (now (out .entry)) (now (reports .entry)))
+        a (lentAll (now (s .exit)) (now (out .exit)) (now (reports .exit)))) ⌝ }
 {
     let a = steps::tick(s, out, reports, answers, t);
     let told = codes::of_ticked(a);
@@ -157,7 +172,10 @@ pub extern "C" fn owned_batch(
     reported: &mut u64,
 ) -> u64
     requires { ⌜ Sound (now s) ⌝ }
-    ensures { λ r. ⌜ Leaves (ran (now (calls .entry)) (lists (now (s .entry)) (now (out .entry)) (now (reports .entry)) (now (answers .entry)))) (lists (now (s .entry)) (now (out .entry)) (now (reports .entry)) (now (answers .entry))) (toldBatched r (now (done .exit)) (now (count .exit)) (now (reported .exit))) (lists (now (s .exit)) (now (out .exit)) (now (reports .exit)) (now (answers .exit))) ⌝ }
+    ensures { λ r. ⌜ Telling (λ a. TellsBatched a r (now (done .exit)) (now (count .exit)) (now (reported .exit)))
+        (λ a. Leaves (ran (now (calls .entry)) (lists (now (s .entry)) (now (out .entry)) (now (reports .entry)) (now (answers .entry))))
+        (lists (now (s .entry)) (now (out .entry)) (now (reports .entry)) (now (answers .entry)))
+        a (lists (now (s .exit)) (now (out .exit)) (now (reports .exit)) (now (answers .exit)))) ⌝ }
 {
     let a = batch::run(s, out, reports, answers, calls);
     let told = batch::of_batched(a);
@@ -180,7 +198,7 @@ pub extern "C" fn owned_any_in_line(s: &[u64]) -> bool
     requires { ⌜ Sound (now s) ⌝ }
     ensures { λ r. ⌜ r ≡ Rules.anyInLine (marketOf (now (s .entry))) ⌝ }
 {
-    store::conns::some_in_line(s)
+    store::conns::any_in_line(s)
 }
 
 #[no_mangle]

@@ -3,14 +3,15 @@ use rules::EventKey;
 use rules::Item;
 ghost use mathlib.Core.Path.{_≡_};
 ghost use mathlib.Core.Bool.{not};
-ghost use mathlib.Core.List.{[], _∷_, _++_};
+ghost use mathlib.Core.List.{[], _∷_, _++_, map};
 ghost use Prim.Native.Nat.{_+_, _*_, _≤_};
 ghost use lib.ListN.{length, drop};
 ghost use lib.Dec.{leb};
 ghost use Rattle.rules.specs.Quantities.{alignRun};
 ghost use Rattle.rules.specs.Lists.{any, index, nil};
-ghost use Rattle.rules.specs.Lines.{events, eventKeys, isSnapshot, snapshotOf};
+ghost use Rattle.rules.specs.Lines.{events, eventKeys, isSnapshot, snapshotOf, messageOf};
 ghost use Rattle.rules.specs.Place.{alignment as aligned};
+ghost use Rattle.words.specs.Words.{over};
 ghost use Rattle.log.specs.Log.{keysIn};
 ghost use Rattle.place.specs.Items.{itemIn, itemsIn, isEvent, placeOf, Room, Counted, Passed};
 
@@ -78,6 +79,34 @@ pub fn holds_event(items: &[u64], held: usize) -> bool
     ensures { λ r. ⌜ r ≡ not (nil (events (itemsIn held (now (items .entry))))) ⌝ }
 {
     next_event(items, held, 0) < held
+}
+
+// How many of the first n items are events.
+pub fn count_events(items: &[u64], n: usize) -> usize
+    requires { ⌜ 4 * n ≤ length (now items) ⌝ }
+    ensures { λ r. ⌜ r ≡ length (events (itemsIn n (now (items .entry)))) ⌝ }
+{
+    let mut count = 0;
+    let mut i = 0;
+    while i < n {
+        if items[4 * i] == EVENT {
+            count += 1;
+        }
+        i += 1;
+    }
+    count
+}
+
+// Writes the first n items' messages to the front of a list.
+pub fn put_messages(items: &[u64], n: usize, list: &mut [u64])
+    requires { ⌜ (4 * n ≤ length (now items)) × (n ≤ length (now list)) ⌝ }
+    ensures { λ _. ⌜ now (list .exit) ≡ over (map messageOf (itemsIn n (now (items .entry)))) (now (list .entry)) ⌝ }
+{
+    let mut i = 0;
+    while i < n {
+        list[i] = items[4 * i + 3];
+        i += 1;
+    }
 }
 
 // Whether any snapshot is held.

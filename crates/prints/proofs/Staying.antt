@@ -2,12 +2,11 @@
 use mathlib.Core.Path.{_≡_, refl, sym, _∙_, ap, subst}
 use mathlib.Core.List.{List, [], _∷_}
 use mathlib.Core.Bool.{Bool, true, false}
-use Prim.Native.Nat.{ℕ, _+_, _-_, _*_, _≤_, _<_}
+use Prim.Native.Nat.{ℕ, _+_, _*_, _≤_, _<_}
 use native.Mathlib.Nat.{zero-add}
 use native.Mathlib.Omega.{arith}
 use lib.ListN.{length, getD}
 use lib.Dec.{leb}
-use borrow.Author.Tests.{le-leb, lt-leb}
 use Rattle.rules.specs.Lists.{any, keep, Each}
 use Rattle.rules.specs.Quantities.{same, age, otherKeep}
 use Rattle.rules.specs.Prints.{KeyRow, CountRow, before, ofKey, expirePrints}
@@ -32,11 +31,8 @@ touched-at : (w : List ℕ) (i : ℕ) → keyAt w i .touched ≡ getD w (4 * i +
 unfolding rowAt
 touched-at w i = ap (λ (k : ℕ). getD w (4 * k + 3) 0) (zero-add i)
 
-pub stays-yes : (t : ℕ) (w : List ℕ) (i : ℕ) → t - getD w (4 * i + 3) 0 ≤ 30000 → true ≡ stays t (keyAt w i)
-stays-yes t w i h = sym (le-leb (age t (keyAt w i .touched)) otherKeep (omega (arith, touched-at w i)))
-
-pub stays-no : (t : ℕ) (w : List ℕ) (i : ℕ) → 30000 < t - getD w (4 * i + 3) 0 → false ≡ stays t (keyAt w i)
-stays-no t w i h = sym (lt-leb (age t (keyAt w i .touched)) otherKeep (omega (arith, touched-at w i)))
+pub stays-by : (t : ℕ) (w : List ℕ) (i a : ℕ) → a ≡ age t (getD w (4 * i + 3) 0) → leb a otherKeep ≡ stays t (keyAt w i)
+stays-by t w i a e = rw (e, touched-at w i)
 
 -- ---- the keys: i looked at, j of them stay
 pub record KeyTurn (n t : ℕ) (w v : List ℕ) (i j : ℕ) : Type 0 where

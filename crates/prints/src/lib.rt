@@ -21,7 +21,7 @@ use rules::EventKey;
 const OTHER_KEEP: u64 = 30_000;
 
 // The largest count of copies.
-const MAX_COUNT: u64 = 4_294_967_295;
+pub const MAX_COUNT: u64 = 4_294_967_295;
 
 // The rows in use.
 pub struct Used {
@@ -136,15 +136,7 @@ fn fresh(area: &[u64], i: usize, t: u64) -> bool
     requires { ⌜ 4 * i + 3 < length (now area) ⌝ }
     ensures { λ r. ⌜ r ≡ leb (age t (keyAt (now (area .entry)) i .touched)) otherKeep ⌝ }
 {
-    let p = 4 * i + 3;
-    let s = area[p];
-    if t <= s {
-        return true;
-    }
-    if t - s <= OTHER_KEEP {
-        return true;
-    }
-    false
+    log::age(t, area[4 * i + 3]) <= OTHER_KEEP
 }
 
 // Count row j is one of the m, and of the key of key row i.

@@ -6,14 +6,10 @@ use mathlib.Core.Bool.{Bool}
 use Prim.Native.Nat.{ℕ}
 use lib.ListN.{length}
 use Rattle.rules.specs.declared.Limits.{Limits}
-use Rattle.rules.specs.declared.Asked.{Asked}
-use Rattle.rules.specs.declared.Asked.the-variants as Asked
-use Rattle.rules.specs.declared.Viewed.{Viewed}
-use Rattle.rules.specs.declared.Viewed.the-variants as Viewed
 use Rattle.rules.specs.Calls.{Outcome, refused, did}
 use Rattle.rules.specs.Lines.{Market}
 use Rattle.rules.specs.Refusals.{Call, setup, view}
-use Rattle.rules.specs.Answers.{Said, number, saidBy, asked, viewed}
+use Rattle.rules.specs.Answers.{Said, number, saidBy, Queried, refusal, value, viewed}
 use Rattle.store.specs.Store.{marketOf, Sound}
 use Rattle.output.specs.Output.{over}
 use Rattle.market.specs.Lent.{Lent}
@@ -36,17 +32,17 @@ pub record MeetsSetup (l : Limits) (start : ℕ) (before : List ℕ) (answer : S
   pub words : SetsUp (setup l start (length before)) before after
 
 -- a query q of the market, on any words
-pub record MeetsQuery (q : Market → Bool) (store : List ℕ) (answer : Asked) : Type 0 where
-  pub unsound : (Sound store → ⊥) → answer ≡ Asked.Refused 1
-  pub sound : Sound store → answer ≡ asked (q (marketOf store))
+pub record MeetsQuery (q : Market → Bool) (store : List ℕ) (answer : Queried Bool) : Type 0 where
+  pub unsound : (Sound store → ⊥) → answer ≡ refusal 1
+  pub sound : Sound store → answer ≡ value (q (marketOf store))
 
 -- a view's messages are written to the front of a list
 abbrev pub Written : Option (List ℕ) → List ℕ → List ℕ → Type 0
 Written none before after = after ≡ before
 Written (some ms) before after = after ≡ over ms before
 
-pub record MeetsView (conn : ℕ) (store before : List ℕ) (answer : Viewed) (after : List ℕ) : Type 0 where
-  pub unsound : (Sound store → ⊥) → (answer ≡ Viewed.Refused 1) × (after ≡ before)
+pub record MeetsView (conn : ℕ) (store before : List ℕ) (answer : Queried ℕ) (after : List ℕ) : Type 0 where
+  pub unsound : (Sound store → ⊥) → (answer ≡ refusal 1) × (after ≡ before)
   pub sound : Sound store
       → (answer ≡ viewed (view conn (length before) (marketOf store))) × Written (view conn (length before) (marketOf store)) before after
 
@@ -60,8 +56,8 @@ pub data Request : Type 0 where
 
 pub data Reply : Type 0 where
   says : Said → Reply
-  asks : Asked → Reply
-  views : Viewed → Reply
+  asks : Queried Bool → Reply
+  views : Queried ℕ → Reply
 
 -- a view's list is lent where an output list is
 abbrev pub Promise : Request → Lent → Reply → Lent → Type 0

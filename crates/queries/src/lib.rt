@@ -3,12 +3,12 @@ use rules::Asked;
 use rules::Viewed;
 ghost use mathlib.Core.Path.{_≡_};
 ghost use Rattle.rules.specs.Refusals as Rules;
-ghost use Rattle.rules.specs.Answers.{asked};
+ghost use Rattle.rules.specs.Answers.{value, ofAsked, ofViewed};
 ghost use Rattle.market.specs.Lent.{lent, alone};
 ghost use Rattle.promise.specs.Meets.{Promise, ofQuery, ofView, asks, views};
 
 fn answer(yes: bool) -> Asked
-    ensures { λ r. ⌜ r ≡ asked yes ⌝ }
+    ensures { λ r. ⌜ ofAsked r ≡ value yes ⌝ }
 {
     if yes {
         return Asked::Yes;
@@ -18,7 +18,7 @@ fn answer(yes: bool) -> Asked
 
 // Whether the connection is in line.
 pub fn in_line(s: &[u64], conn: u64) -> Asked
-    ensures { λ r. ⌜ Promise (ofQuery (Rules.inLine conn)) (alone (now (s .entry))) (asks r) (alone (now (s .entry))) ⌝ }
+    ensures { λ r. ⌜ Promise (ofQuery (Rules.inLine conn)) (alone (now (s .entry))) (asks (ofAsked r)) (alone (now (s .entry))) ⌝ }
 {
     if sound::is_sound(s) {
         return answer(market::asking::in_line(s, conn));
@@ -28,17 +28,17 @@ pub fn in_line(s: &[u64], conn: u64) -> Asked
 
 // Whether anyone is in line.
 pub fn any_in_line(s: &[u64]) -> Asked
-    ensures { λ r. ⌜ Promise (ofQuery Rules.anyInLine) (alone (now (s .entry))) (asks r) (alone (now (s .entry))) ⌝ }
+    ensures { λ r. ⌜ Promise (ofQuery Rules.anyInLine) (alone (now (s .entry))) (asks (ofAsked r)) (alone (now (s .entry))) ⌝ }
 {
     if sound::is_sound(s) {
-        return answer(store::conns::some_in_line(s));
+        return answer(store::conns::any_in_line(s));
     }
     Asked::Refused(1)
 }
 
 // Whether some line is in line, or able to start the book.
 pub fn servable(s: &[u64]) -> Asked
-    ensures { λ r. ⌜ Promise (ofQuery Rules.servable) (alone (now (s .entry))) (asks r) (alone (now (s .entry))) ⌝ }
+    ensures { λ r. ⌜ Promise (ofQuery Rules.servable) (alone (now (s .entry))) (asks (ofAsked r)) (alone (now (s .entry))) ⌝ }
 {
     if sound::is_sound(s) {
         return answer(market::asking::servable(s));
@@ -48,10 +48,10 @@ pub fn servable(s: &[u64]) -> Asked
 
 // Writes a pending line's messages to the front of a list.
 pub fn view(s: &[u64], conn: u64, list: &mut [u64]) -> Viewed
-    ensures { λ r. ⌜ Promise (ofView conn) (lent (now (s .entry)) (now (list .entry))) (views r) (lent (now (s .entry)) (now (list .exit))) ⌝ }
+    ensures { λ r. ⌜ Promise (ofView conn) (lent (now (s .entry)) (now (list .entry))) (views (ofViewed r)) (lent (now (s .entry)) (now (list .exit))) ⌝ }
 {
     if sound::is_sound(s) {
-        let h = s[1] as usize;
+        let h = store::conns::held_limit(s);
         if list.len() < h + 8 {
             return Viewed::Refused(3);
         }

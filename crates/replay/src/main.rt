@@ -31,19 +31,19 @@ struct Taken {
 
 // How many lines the store has; at most L.
 fn line_count(s: &[u64]) -> usize
-    requires { ⌜ 10 ≤ length (now s) ⌝ }
+    requires { ⌜ 64 ≤ length (now s) ⌝ }
     ensures { λ r. ⌜ r ≤ 4 ⌝ }
 {
-    let lines = s[9];
+    let lines = store::conns::count(s);
     if lines < 4 {
-        return lines as usize;
+        return lines;
     }
     4
 }
 
 // A tick with this view answer for every line.
 fn tick(s: &mut [u64], out: &mut [u64], reports: &mut [u64], answer: u64, time: u64) -> Ticked
-    requires { ⌜ 10 ≤ length (now s) ⌝ }
+    requires { ⌜ 64 ≤ length (now s) ⌝ }
 {
     let answers = [answer; 4];
     let lines = line_count(s);
@@ -126,7 +126,7 @@ fn alone(
     next: Next,
     number: u64,
 ) -> Taken
-    requires { ⌜ (10 ≤ length (now s)) × ((length (now out) ≤ 4046) × (length (now reports) ≤ 24)) ⌝ }
+    requires { ⌜ (64 ≤ length (now s)) × ((length (now out) ≤ 4046) × (length (now reports) ≤ 24)) ⌝ }
     requires { ⌜ n + 80000 ≤ length (now text) ⌝ }
     ensures { λ r. ⌜ (r .n ≤ length (now (text .exit))) × (r .on ≡ true → r .n + 80000 ≤ length (now (text .exit))) ⌝ }
     ensures { λ r. ⌜ (1 ≤ r .records) × (r .records ≤ 32) ⌝ }
@@ -160,7 +160,7 @@ fn some(
     bytes: &[u8],
     number: u64,
 ) -> Taken
-    requires { ⌜ (10 ≤ length (now s)) × ((length (now out) ≤ 4046) × (length (now reports) ≤ 24)) ⌝ }
+    requires { ⌜ (64 ≤ length (now s)) × ((length (now out) ≤ 4046) × (length (now reports) ≤ 24)) ⌝ }
     requires { ⌜ n + 80000 ≤ length (now text) ⌝ }
     ensures { λ r. ⌜ (r .n ≤ length (now (text .exit))) × (r .on ≡ true → r .n + 80000 ≤ length (now (text .exit))) ⌝ }
     ensures { λ r. ⌜ (1 ≤ r .records) × (r .records ≤ 32) ⌝ }
@@ -184,7 +184,7 @@ fn records(
     input: &[u8],
     first: u64,
 ) -> bool
-    requires { ⌜ (10 ≤ length (now s)) × ((length (now out) ≤ 4046) × (length (now reports) ≤ 24)) ⌝ }
+    requires { ⌜ (64 ≤ length (now s)) × ((length (now out) ≤ 4046) × (length (now reports) ≤ 24)) ⌝ }
     requires { ⌜ (80000 ≤ length (now text)) × ((length (now input) ≤ 65516) × (first < 2 ^ 60)) ⌝ }
 {
     let mut number = first;
@@ -212,7 +212,7 @@ fn block(
     input: &mut [u8],
     blocks: u64,
 ) -> bool
-    requires { ⌜ (10 ≤ length (now s)) × ((length (now out) ≤ 4046) × (length (now reports) ≤ 24)) ⌝ }
+    requires { ⌜ (64 ≤ length (now s)) × ((length (now out) ≤ 4046) × (length (now reports) ≤ 24)) ⌝ }
     requires { ⌜ (80000 ≤ length (now text)) × ((length (now input) ≤ 65516) × (blocks < 2 ^ 40)) ⌝ }
 {
     let got = io::read_full(STDIN_FILENO, input);
@@ -224,7 +224,7 @@ fn block(
 }
 
 fn run(s: &mut [u64], out: &mut [u64], reports: &mut [u64], text: &mut [u8], input: &mut [u8])
-    requires { ⌜ (10 ≤ length (now s)) × ((length (now out) ≤ 4046) × (length (now reports) ≤ 24)) ⌝ }
+    requires { ⌜ (64 ≤ length (now s)) × ((length (now out) ≤ 4046) × (length (now reports) ≤ 24)) ⌝ }
     requires { ⌜ (80000 ≤ length (now text)) × (length (now input) ≤ 65516) ⌝ }
 {
     let mut blocks = 0;

@@ -13,4 +13,4 @@ use Rattle.rules.specs.Points.{listing, WorkedPoints, bases, deserted, e
 pub worked-points : WorkedPoints
 unfolding points says saysWith leaves bases two deserted listing pqrs joins event eventAt snap printOf printAt tickAt limits lastOf after step subscribe subscribed snapshot bookEvent holdPrint printCounted print source promote dropConn tick turns turn timeOut rebuildFrom quietLineUp old fits counts alignment lineUp tryLineUp round rounds enter release pushOut pushAll putItems takeOver
 worked-points =
-    (refl, (refl, (refl, (refl, (refl, (refl, (refl, (refl, (refl, (refl, (refl, (refl, (refl, (refl, (refl, (refl, (refl, (refl, (refl, (refl, (refl, (refl, (refl, (refl, (refl, (refl, (refl, (refl, (refl, (refl, (refl, (refl, (refl, (refl, (refl, tt)))))))))))))))))))))))))))))))))))
+    (refl, (refl, (refl, (refl, (refl, (refl, (refl, (refl, (refl, (refl, (refl, (refl, (refl, (refl, (refl, (refl, (refl, (refl, (refl, (refl, (refl, (refl, (refl, (refl, (refl, (refl, (refl, (refl, (refl, (refl, (refl, (refl, (refl, (refl, (refl, (refl, (refl, tt)))))))))))))))))))))))))))))))))))))

@@ -1,6 +1,5 @@
 -- Demand 3, proved.
 use mathlib.Core.Path.{_≡_, refl, sym, _∙_, ap, subst, fun-ext}
-use mathlib.Core.Logic.{_≢_}
 use mathlib.Core.List.{List, [], _∷_, _++_, map}
 use mathlib.Core.Bool.{Bool, true, false, cond}
 use Prim.Native.Nat.{ℕ, suc, _+_, _-_, _≤_, _<_}
@@ -9,12 +8,15 @@ use lib.Dec.{ltb, eqb}
 use lib.ListN.{length, getD, take, drop, length-map, take-append-drop}
 use lib.Seq.{take-at, drop-at}
 use Rattle.rules.specs.declared.Applied.{Applied}
-use Rattle.rules.specs.Lists.{Each, Rising, any, index}
+use Rattle.rules.specs.declared.Kind.{Kind}
+use Rattle.rules.specs.declared.Kind.the-variants as Kind
+use Rattle.rules.specs.Lists.{Each, In, Rising, any, index}
 use Rattle.rules.specs.Quantities.{Key, same}
 use Rattle.rules.specs.Log.{end, keys}
 use Rattle.rules.specs.Lines.{Connection, Failed, InLine, Line, Market, Pending, Waiting, isPending, nobody}
 use Rattle.rules.specs.Refusals.{BookEvent, Call, Drop, Print, Promote, Reset, Snapshot, Subscribe, Tick, roomNeeded, short}
-use Rattle.rules.specs.Demand.{Demand, Demand3, Ends, Goes, GoesOn, History, Unrefused, advanced, after, bookKeys, books, eventsOf, farthest, highest, lineFor, numbered, own, printsBy, records, run, setUp, timeless}
+use Rattle.rules.specs.Answers.{Said}
+use Rattle.rules.specs.Demand.{Demand, Demand3, Ends, Goes, GoesOn, History, Sent, SentAs, Unrefused, advanced, after, answers, bookKeys, books, deliveredOf, eventsOf, farthest, highest, lineFor, nextOf, numbered, own, ownBooks, ownPrints, printsBy, records, run, setUp, timeless}
 use Rattle.rules.proofs.Tests.{eqb-other, eqb-same, ff≢tt, or-false-left, or-false-right}
 use Rattle.rules.proofs.ListLaws.{each-imp}
 use Rattle.rules.proofs.Order.{same-itself, same-true, samePair, samePair-itself, samePair-true}
@@ -25,7 +27,7 @@ use Rattle.rules.proofs.History.{GoodH, agreed, in-line-agrees, numbers
 use Rattle.rules.proofs.Still.{lineIn}
 use Rattle.rules.proofs.Going.{Calm, CalmLine, Fits, Going, counting, newKeys, newPairs, printKeys, printPairs, printing, roomOf, seenKey, seenPair}
 use Rattle.rules.proofs.RunOn.{Closed, closed-of, fits-of, unrefused-of}
-use Rattle.rules.proofs.OwnCalls.{each-order, keys-printed, own-events, own-prints, pairs-printed, printed-in}
+use Rattle.rules.proofs.OwnCalls.{each-order, keys-printed, own-books, own-copies, own-events, own-prints, pairs-printed, printed-in}
 
 -- ---- another order
 
@@ -100,14 +102,29 @@ module _ (U : List Key) (m : Market) (xs ys : List Call) (o : (c : ℕ) → own 
       same-room (Reset now) = refl
       same-room (Tick answers now room reports) = refl
 
-  ends : (m′ : Market) (out : List Applied) → Closed U m ys m′ out → Ends m U xs m′ out
-  ends m′ out c =
+  sent-same : (r : Applied) → Sent m ys r → Sent m xs r
+  sent-same r h = go (r .kind) h
+    where
+      c : ℕ
+      c = r .conn
+
+      n : ℕ
+      n = nextOf (lineFor c m)
+
+      go : (k : Kind) → SentAs k m ys r → SentAs k m xs r
+      go Kind.Snapshot t = t
+      go Kind.Book t = subst (In r) (sym (own-books c n ys) ∙ ap (ownBooks c n) (o c) ∙ own-books c n xs) t
+      go Kind.Print t = (subst (In (r .key, r .message)) (sym (own-copies c ys) ∙ ap (ownPrints c) (o c) ∙ own-copies c xs) (t .0), t .1, t .2)
+
+  ends : (m′ : Market) (out : List Applied) (said : List Said) → Closed U m ys m′ out said → Ends m U xs m′ out said
+  ends m′ out said c =
       let l₁ = length-map (m .log .entries) (λ e. e .0) in
       let l₂ = length-map (m′ .log .entries) (λ e. e .0) in
       let ba = c .base in
       let lk : take (end (m′ .log) - m .log .base) U ≡ keys (m′ .log) =
       ap (take (end (m′ .log) - m .log .base)) (c .begins) ∙ take-at (keys (m′ .log)) (c .beyond) (end (m′ .log) - m .log .base) (omega arith) in
       record {
+        limits = c .limits;
         lines = c .lines ∙ ap (λ (f : ℕ → ℕ). map (advanced f) (m .lines)) counting-same;
         base = c .base;
         atEnd = c .atEnd ∙ ap (farthest m) counting-same;
@@ -115,13 +132,16 @@ module _ (U : List Key) (m : Market) (xs ys : List Call) (o : (c : ℕ) → own 
         once = c .once ∙ ap (numbered (end (m .log))) (sym (ap (drop (end (m .log) - m .log .base)) (lk ∙ c .grew) ∙ drop-at (keys (m .log)) (c .newer) (end (m .log) - m .log .base) (omega arith)));
         applied = λ k. c .applied k ∙ ap (highest k m) (printing-same k);
         rise = c .rise;
+        answered = c .answered;
+        delivered = λ k d. c .delivered k d ∙ ap (λ (n : ℕ). deliveredOf k d m + n) (prints-same k d);
+        sent = each-imp (Sent m ys) (Sent m xs) sent-same out (c .sent);
       }
 
-  pub any-order : Going U m xs → Unrefused m xs → Unrefused m ys × Ends m U xs (after m ys) (records m ys)
+  pub any-order : Going U m xs → Unrefused m xs → Unrefused m ys × Ends m U xs (after m ys) (records m ys) (answers m ys)
   any-order g u =
       let g′ = going-order g in
       let u′ = unrefused-of U ys m g′ (fits-order (fits-of U xs m g u)) in
-      (u′, ends (after m ys) (records m ys) (closed-of U ys m g′ u′))
+      (u′, ends (after m ys) (records m ys) (answers m ys) (closed-of U ys m g′ u′))
 
 -- ---- from a history
 

@@ -1,6 +1,6 @@
 -- Connections in line go on: a print.
 use mathlib.Core.Path.{_≡_, refl, sym, _∙_, ap, fun-ext}
-use mathlib.Core.Logic.{_≢_}
+use mathlib.Core.Logic.{inl, inr}
 use mathlib.Core.List.{List, [], _∷_, map}
 use mathlib.Core.Bool.{Bool, true, false, not, _&&_, _||_, cond}
 use Prim.Native.Nat.{ℕ, suc, _+_, _-_, _^_, _≤_, _<_, max}
@@ -24,6 +24,7 @@ use Rattle.rules.proofs.PrintLaws.{deliver-any, deliver-delivered, deli
 use Rattle.rules.proofs.Invariant.{present}
 use Rattle.rules.proofs.History.{conn-of}
 use Rattle.rules.proofs.Still.{largest-shift}
+use Rattle.rules.proofs.SentCalls.{sent-print}
 use Rattle.rules.proofs.Going.{Fits, Going, Judged, Moved, Printed, printKeys, printPairs, printing, refuse-judged, seenKey, seenPair}
 
 -- ---- a print
@@ -203,23 +204,29 @@ module _ (U : List Key) (m : Market) (c : ℕ) (k : Key) (msg now room : ℕ) (x
       let cs = touch k now (m .prints .keyRows) in
       let cs′ = setApplied k d cs in
       by-cond (Judged U m x xs) (leb d (appliedOf k m))
-      (λ q. let le : d ≤ appliedOf k m = leb-true q in
-      record {
-        limits = refl;
-        room = rm;
-        log = moved-on cs [] refl;
-        prints = printed-on cs (touched-on le) (λ j. touch-any k now (m .prints .keyRows) j) (touch-length k now (m .prints .keyRows)) t₇ df []
-            (λ j. let z = touch-applied k now (m .prints .keyRows) j in omega arith);
-      })
+      (λ q. let le : d ≤ appliedOf k m = leb-true q in (
+        inr refl,
+        record {
+          limits = refl;
+          room = rm;
+          log = moved-on cs [] refl;
+          prints = printed-on cs (touched-on le) (λ j. touch-any k now (m .prints .keyRows) j) (touch-length k now (m .prints .keyRows)) t₇ df []
+              (λ j. let z = touch-applied k now (m .prints .keyRows) j in omega arith);
+          sent = tt;
+        },
+      ))
       (λ q. let lt : appliedOf k m < d = leb-false q in
-      let out : List Applied = printOut c k msg (d - appliedOf k m) ∷ [] in
-      record {
-        limits = refl;
-        room = rm;
-        log = moved-on cs′ out refl;
-        prints = printed-on cs′ (raised-on lt) (λ j. setApplied-any k d cs j ∙ touch-any k now (m .prints .keyRows) j) (setApplied-length k d cs ∙ touch-length k now (m .prints .keyRows)) t₇ df out
-            (λ j. sym (raised-on lt j ∙ go lt j (same k j) refl));
-      })
+      let out : List Applied = printOut c k msg (d - appliedOf k m) ∷ [] in (
+        inl refl,
+        record {
+          limits = refl;
+          room = rm;
+          log = moved-on cs′ out refl;
+          prints = printed-on cs′ (raised-on lt) (λ j. setApplied-any k d cs j ∙ touch-any k now (m .prints .keyRows) j) (setApplied-length k d cs ∙ touch-length k now (m .prints .keyRows)) t₇ df out
+              (λ j. sym (raised-on lt j ∙ go lt j (same k j) refl));
+          sent = (sent-print m c k msg now room xs (d - appliedOf k m) (omega arith), tt);
+        },
+      ))
     where
       go : appliedOf k m < d → (j : Key) (b : Bool) → same k j ≡ b → cond b (max (appliedOf k m) d) (appliedOf j m) ≡ appliedOf j m + (cond b (d - appliedOf k m) 0 + 0)
       go lt j true z = let q : appliedOf k m ≡ appliedOf j m = ap (λ (y : Key). appliedOf y m) (same-true k j z) in omega arith

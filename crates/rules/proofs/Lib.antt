@@ -15,7 +15,9 @@ pub mod TickKept
 pub mod History
 pub mod Still
 pub mod Loops
+pub mod SentCalls
 pub mod Going
+pub mod GoingBook
 pub mod GoingPrint
 pub mod RunOn
 pub mod OwnCalls

@@ -1,55 +1,22 @@
 -- Orders of the same calls: what each connection's own calls settle.
 use mathlib.Core.Path.{_≡_, refl, sym, _∙_, ap, subst}
-use mathlib.Core.Logic.{_≢_}
 use mathlib.Core.List.{List, [], _∷_, _++_, map}
 use mathlib.Core.Bool.{Bool, true, false, _&&_, _||_, cond}
-use Prim.Native.Nat.{ℕ, suc, _+_, _-_, _≤_, _<_}
+use Prim.Native.Nat.{ℕ, suc, _≤_, _<_}
 use native.Mathlib.Omega.{arith}
 use lib.Dec.{eqb}
+use Rattle.rules.specs.declared.Applied.{Applied}
 use Rattle.rules.specs.Lists.{Each, any, first, keep}
-use Rattle.rules.specs.Quantities.{Key, same}
+use Rattle.rules.specs.Quantities.{Key, bookOut, same}
 use Rattle.rules.specs.Refusals.{BookEvent, Call, Drop, Print, Promote, Reset, Snapshot, Subscribe, Tick}
-use Rattle.rules.specs.Demand.{caller, eventKey, eventsOf, isPrint, own, printsBy, timeless}
+use Rattle.rules.specs.Demand.{caller, eventKey, eventsOf, isPrint, own, ownBook, ownBooks, ownPrint, ownPrints, printsBy, timeless}
 use Rattle.rules.proofs.Tests.{by-cond, eqb-same, ff≢tt}
 use Rattle.rules.proofs.ListLaws.{each-imp}
 use Rattle.rules.proofs.Order.{same-itself, samePair, samePair-itself, samePair-true}
+use Rattle.rules.proofs.Tables.{cond-same}
 use Rattle.rules.proofs.Going.{aKey, aPair, printKeys, printPairs}
 
 -- ---- what a connection's own calls settle
-
-own-event : (c : ℕ) (x : Call) (os xs : List Call) → eventsOf c os ≡ eventsOf c xs → eventsOf c (map timeless (cond (eqb (caller x) c) (x ∷ []) []) ++ os) ≡ eventKey c x (eventsOf c xs)
-unfolding eventsOf
-own-event c (BookEvent d k msg now room) os xs h = go (eqb d c) refl
-  where
-    go : (b : Bool) → eqb d c ≡ b → eventsOf c (map timeless (cond b (BookEvent d k msg now room ∷ []) []) ++ os) ≡ cond b (k ∷ eventsOf c xs) (eventsOf c xs)
-    go true e = ap (λ (b : Bool). cond b (k ∷ eventsOf c os) (eventsOf c os)) e ∙ ap {B = List Key} (λ t. k ∷ t) h
-    go false e = h
-own-event c (Print d k msg now room) os xs h = by-cond (λ (l : List Call). eventsOf c (map timeless l ++ os) ≡ eventsOf c xs) (eqb d c) (λ e. h) (λ e. h)
-own-event c (Subscribe d now) os xs h = by-cond (λ (l : List Call). eventsOf c (map timeless l ++ os) ≡ eventsOf c xs) (eqb d c) (λ e. h) (λ e. h)
-own-event c (Snapshot d i msg now room) os xs h = by-cond (λ (l : List Call). eventsOf c (map timeless l ++ os) ≡ eventsOf c xs) (eqb d c) (λ e. h) (λ e. h)
-own-event c (Drop d now room) os xs h = by-cond (λ (l : List Call). eventsOf c (map timeless l ++ os) ≡ eventsOf c xs) (eqb d c) (λ e. h) (λ e. h)
-own-event c (Promote now room) os xs h = by-cond (λ (l : List Call). eventsOf c (map timeless l ++ os) ≡ eventsOf c xs) (eqb 0 c) (λ e. h) (λ e. h)
-own-event c (Reset now) os xs h = by-cond (λ (l : List Call). eventsOf c (map timeless l ++ os) ≡ eventsOf c xs) (eqb 0 c) (λ e. h) (λ e. h)
-own-event c (Tick answers now room reports) os xs h = by-cond (λ (l : List Call). eventsOf c (map timeless l ++ os) ≡ eventsOf c xs) (eqb 0 c) (λ e. h) (λ e. h)
-
-own-print : (k : Key) (c : ℕ) (x : Call) (os xs : List Call) → printsBy k c os ≡ printsBy k c xs → printsBy k c (map timeless (cond (eqb (caller x) c) (x ∷ []) []) ++ os) ≡ isPrint k c x (printsBy k c xs)
-unfolding printsBy
-own-print k c (Print d j msg now room) os xs h = go (eqb d c) refl (same j k)
-  where
-    go : (b : Bool) → eqb d c ≡ b → (s : Bool) → printsBy k c (map timeless (cond b (Print d j msg now room ∷ []) []) ++ os) ≡ cond (same j k && b) (suc (printsBy k c xs)) (printsBy k c xs)
-    go true e s = ap (λ (b : Bool). cond (same j k && b) (suc (printsBy k c os)) (printsBy k c os)) e ∙ ap (λ (t : ℕ). cond (same j k && true) (suc t) t) h
-    go false e s = h ∙ none (same j k)
-      where
-        none : (s : Bool) → printsBy k c xs ≡ cond (s && false) (suc (printsBy k c xs)) (printsBy k c xs)
-        none true = refl
-        none false = refl
-own-print k c (BookEvent d j msg now room) os xs h = by-cond (λ (l : List Call). printsBy k c (map timeless l ++ os) ≡ printsBy k c xs) (eqb d c) (λ e. h) (λ e. h)
-own-print k c (Subscribe d now) os xs h = by-cond (λ (l : List Call). printsBy k c (map timeless l ++ os) ≡ printsBy k c xs) (eqb d c) (λ e. h) (λ e. h)
-own-print k c (Snapshot d i msg now room) os xs h = by-cond (λ (l : List Call). printsBy k c (map timeless l ++ os) ≡ printsBy k c xs) (eqb d c) (λ e. h) (λ e. h)
-own-print k c (Drop d now room) os xs h = by-cond (λ (l : List Call). printsBy k c (map timeless l ++ os) ≡ printsBy k c xs) (eqb d c) (λ e. h) (λ e. h)
-own-print k c (Promote now room) os xs h = by-cond (λ (l : List Call). printsBy k c (map timeless l ++ os) ≡ printsBy k c xs) (eqb 0 c) (λ e. h) (λ e. h)
-own-print k c (Reset now) os xs h = by-cond (λ (l : List Call). printsBy k c (map timeless l ++ os) ≡ printsBy k c xs) (eqb 0 c) (λ e. h) (λ e. h)
-own-print k c (Tick answers now room reports) os xs h = by-cond (λ (l : List Call). printsBy k c (map timeless l ++ os) ≡ printsBy k c xs) (eqb 0 c) (λ e. h) (λ e. h)
 
 own-cons : (c : ℕ) (x : Call) (xs : List Call) → own c (x ∷ xs) ≡ map timeless (cond (eqb (caller x) c) (x ∷ []) []) ++ own c xs
 unfolding own
@@ -59,15 +26,89 @@ own-cons c x xs = go (eqb (caller x) c)
     go true = refl
     go false = refl
 
+-- what a connection's own calls alone make, whatever their time
+module _ {B : Type 0} (c : ℕ) (f : List Call → B) (g : Call → B → B) (made : (x : Call) (xs : List Call) → f (x ∷ xs) ≡ g x (f xs))
+    (once : (x : Call) (b : B) → g x b ≡ cond (eqb (caller x) c) (g (timeless x) b) b) where
+  own-same : (xs : List Call) → f (own c xs) ≡ f xs
+  unfolding own
+  own-same [] = refl
+  own-same (x ∷ xs) = ap f (own-cons c x xs) ∙ go (eqb (caller x) c) (own-same xs) ∙ sym (once x (f xs)) ∙ sym (made x xs)
+    where
+      go : (b : Bool) → f (own c xs) ≡ f xs → f (map timeless (cond b (x ∷ []) []) ++ own c xs) ≡ cond b (g (timeless x) (f xs)) (f xs)
+      go true h = made (timeless x) (own c xs) ∙ ap (g (timeless x)) h
+      go false h = h
+
+cond-twice : {A : Type 0} (b : Bool) (x y : A) → cond b x y ≡ cond b (cond b x y) y
+cond-twice true x y = refl
+cond-twice false x y = refl
+
+event-once : (c : ℕ) (x : Call) (l : List Key) → eventKey c x l ≡ cond (eqb (caller x) c) (eventKey c (timeless x) l) l
+event-once c (BookEvent d j msg now room) l = cond-twice (eqb d c) (j ∷ l) l
+event-once c (Print d j msg now room) l = sym (cond-same (eqb d c) l)
+event-once c (Subscribe d now) l = sym (cond-same (eqb d c) l)
+event-once c (Snapshot d i msg now room) l = sym (cond-same (eqb d c) l)
+event-once c (Drop d now room) l = sym (cond-same (eqb d c) l)
+event-once c (Promote now room) l = sym (cond-same (eqb 0 c) l)
+event-once c (Reset now) l = sym (cond-same (eqb 0 c) l)
+event-once c (Tick answers now room reports) l = sym (cond-same (eqb 0 c) l)
+
+print-once : (k : Key) (c : ℕ) (x : Call) (n : ℕ) → isPrint k c x n ≡ cond (eqb (caller x) c) (isPrint k c (timeless x) n) n
+print-once k c (BookEvent d j msg now room) n = sym (cond-same (eqb d c) n)
+print-once k c (Print d j msg now room) n = go (same j k) (eqb d c)
+  where
+    go : (s b : Bool) → cond (s && b) (suc n) n ≡ cond b (cond (s && b) (suc n) n) n
+    go true true = refl
+    go true false = refl
+    go false true = refl
+    go false false = refl
+print-once k c (Subscribe d now) n = sym (cond-same (eqb d c) n)
+print-once k c (Snapshot d i msg now room) n = sym (cond-same (eqb d c) n)
+print-once k c (Drop d now room) n = sym (cond-same (eqb d c) n)
+print-once k c (Promote now room) n = sym (cond-same (eqb 0 c) n)
+print-once k c (Reset now) n = sym (cond-same (eqb 0 c) n)
+print-once k c (Tick answers now room reports) n = sym (cond-same (eqb 0 c) n)
+
+book-once : (c : ℕ) (x : Call) (l : ℕ → List Applied)
+    → _≡_ {A = ℕ → List Applied} (λ n. ownBook c n x l) (cond (eqb (caller x) c) (λ n. ownBook c n (timeless x) l) l)
+book-once c (BookEvent d j msg now room) l = go (eqb d c)
+  where
+    go : (b : Bool) → _≡_ {A = ℕ → List Applied} (λ n. cond b (bookOut c n j msg ∷ l (suc n)) (l n))
+        (cond b (λ n. cond b (bookOut c n j msg ∷ l (suc n)) (l n)) l)
+    go true = refl
+    go false = refl
+book-once c (Print d j msg now room) l = sym (cond-same (eqb d c) l)
+book-once c (Subscribe d now) l = sym (cond-same (eqb d c) l)
+book-once c (Snapshot d i msg now room) l = sym (cond-same (eqb d c) l)
+book-once c (Drop d now room) l = sym (cond-same (eqb d c) l)
+book-once c (Promote now room) l = sym (cond-same (eqb 0 c) l)
+book-once c (Reset now) l = sym (cond-same (eqb 0 c) l)
+book-once c (Tick answers now room reports) l = sym (cond-same (eqb 0 c) l)
+
+copy-once : (c : ℕ) (x : Call) (l : List (Key × ℕ)) → ownPrint c x l ≡ cond (eqb (caller x) c) (ownPrint c (timeless x) l) l
+copy-once c (BookEvent d j msg now room) l = sym (cond-same (eqb d c) l)
+copy-once c (Print d j msg now room) l = cond-twice (eqb d c) ((j, msg) ∷ l) l
+copy-once c (Subscribe d now) l = sym (cond-same (eqb d c) l)
+copy-once c (Snapshot d i msg now room) l = sym (cond-same (eqb d c) l)
+copy-once c (Drop d now room) l = sym (cond-same (eqb d c) l)
+copy-once c (Promote now room) l = sym (cond-same (eqb 0 c) l)
+copy-once c (Reset now) l = sym (cond-same (eqb 0 c) l)
+copy-once c (Tick answers now room reports) l = sym (cond-same (eqb 0 c) l)
+
 pub own-events : (c : ℕ) (xs : List Call) → eventsOf c (own c xs) ≡ eventsOf c xs
-unfolding own eventsOf
-own-events c [] = refl
-own-events c (x ∷ xs) = ap (eventsOf c) (own-cons c x xs) ∙ own-event c x (own c xs) xs (own-events c xs)
+unfolding eventsOf
+own-events c xs = own-same c (eventsOf c) (eventKey c) (λ x ys. refl) (event-once c) xs
 
 pub own-prints : (k : Key) (c : ℕ) (xs : List Call) → printsBy k c (own c xs) ≡ printsBy k c xs
-unfolding own printsBy
-own-prints k c [] = refl
-own-prints k c (x ∷ xs) = ap (printsBy k c) (own-cons c x xs) ∙ own-print k c x (own c xs) xs (own-prints k c xs)
+unfolding printsBy
+own-prints k c xs = own-same c (printsBy k c) (isPrint k c) (λ x ys. refl) (print-once k c) xs
+
+pub own-books : (c n : ℕ) (xs : List Call) → ownBooks c n (own c xs) ≡ ownBooks c n xs
+unfolding ownBooks
+own-books c n xs = ap (λ (l : ℕ → List Applied). l n) (own-same c (λ ys j. ownBooks c j ys) (λ x l j. ownBook c j x l) (λ x ys. refl) (book-once c) xs)
+
+pub own-copies : (c : ℕ) (xs : List Call) → ownPrints c (own c xs) ≡ ownPrints c xs
+unfolding ownPrints
+own-copies c xs = own-same c (ownPrints c) (ownPrint c) (λ x ys. refl) (copy-once c) xs
 
 -- what holds of each call whatever its time
 module _ (Q : Call → Type 0) (drop-time : (x : Call) → Q x → Q (timeless x)) (any-time : (x : Call) → Q (timeless x) → Q x) where

@@ -15,12 +15,15 @@ use Rattle.rules.specs.Log.{end, keys}
 use Rattle.rules.specs.Lines.{Connection, Failed, InLine, Line, Market, Pending, Waiting, isInLine, itemCount}
 use Rattle.rules.specs.Calls.{Outcome, did, refused}
 use Rattle.rules.specs.Refusals.{BookEvent, Call, Drop, Print, Promote, Reset, Snapshot, Subscribe, Tick, roomNeeded, step}
-use Rattle.rules.specs.Demand.{Goes, Passed, Unrefused, advanced, after, appliedOf, books, copies, deliveredOf, eventsOf, farthest, forward, highest, marketAfter, numbered, printsBy, reach, records, recordsOf}
+use Rattle.rules.specs.Answers.{Said, saidBy}
+use Rattle.rules.specs.Demand.{ApplyOrDuplicate, Goes, Passed, Sent, Unrefused, advanced, after, answers, appliedOf, books, copies, deliveredOf, eventsOf, farthest, forward, highest, marketAfter, numbered, printsBy, reach, records, recordsOf}
 use Rattle.rules.proofs.Tests.{either, ltb-false, ltb-true}
-use Rattle.rules.proofs.ListLaws.{append-nil, each-imp, each-map}
+use Rattle.rules.proofs.ListLaws.{append-nil, each-append, each-imp, each-map}
 use Rattle.rules.proofs.Invariant.{books-append}
 use Rattle.rules.proofs.Still.{largest-same, lineIn, numbered-append}
-use Rattle.rules.proofs.Going.{Calm, CalmLine, Fits, Going, Judged, Next, book-judged, counting, newKeys, newPairs, printKeys, printPairs, printing, roomOf}
+use Rattle.rules.proofs.SentCalls.{sent-later}
+use Rattle.rules.proofs.Going.{Calm, CalmLine, Fits, Going, Judged, Next, counting, newKeys, newPairs, printKeys, printPairs, printing, roomOf}
+use Rattle.rules.proofs.GoingBook.{book-judged}
 use Rattle.rules.proofs.GoingPrint.{print-judged}
 
 -- ---- one call
@@ -172,8 +175,8 @@ fits-of U (x ∷ xs) m g u = go (step x m) (judged U m x xs g) u (λ m′ g′ u
   where
     go : (o : Outcome) → Judged U m x xs o → Passed o (λ m′. Unrefused m′ xs) → ((m′ : Market) → Going U m′ xs → Unrefused m′ xs → Fits m′ xs) → Fits m (x ∷ xs)
     go (refused n) j p ih = absurd p
-    go (did a rs w) j p ih = fits-step U m x xs (w .market) (w .out) j (far-end (w .market) (counting xs))
-        (let z = end-grows U m x xs (w .market) (w .out) j in omega arith) (ih (w .market) (going-next U m x xs (w .market) (w .out) g j) p)
+    go (did a rs w) j p ih = fits-step U m x xs (w .market) (w .out) (j .1) (far-end (w .market) (counting xs))
+        (let z = end-grows U m x xs (w .market) (w .out) (j .1) in omega arith) (ih (w .market) (going-next U m x xs (w .market) (w .out) g (j .1)) p)
 
 pub unrefused-of : (U : List Key) (xs : List Call) (m : Market) → Going U m xs → Fits m xs → Unrefused m xs
 unfolding Unrefused
@@ -182,12 +185,13 @@ unrefused-of U (x ∷ xs) m g f = go (step x m) (judged U m x xs g) (λ m′ g�
   where
     go : (o : Outcome) → Judged U m x xs o → ((m′ : Market) → Going U m′ xs → Fits m′ xs → Unrefused m′ xs) → Passed o (λ m′. Unrefused m′ xs)
     go (refused n) j ih = j f
-    go (did a rs w) j ih = ih (w .market) (going-next U m x xs (w .market) (w .out) g j)
-        (fits-back U m x xs (w .market) (w .out) j (let z = end-grows U m x xs (w .market) (w .out) j in omega arith) f)
+    go (did a rs w) j ih = ih (w .market) (going-next U m x xs (w .market) (w .out) g (j .1))
+        (fits-back U m x xs (w .market) (w .out) (j .1) (let z = end-grows U m x xs (w .market) (w .out) (j .1) in omega arith) f)
 
 -- ---- how a run ends
 
-pub record Closed (U : List Key) (m : Market) (xs : List Call) (m′ : Market) (out : List Applied) : Type 0 where
+pub record Closed (U : List Key) (m : Market) (xs : List Call) (m′ : Market) (out : List Applied) (said : List Said) : Type 0 where
+  pub limits : m′ .limits ≡ m .limits
   pub lines : m′ .lines ≡ map (advanced (counting xs)) (m .lines)
   pub base : m′ .log .base ≡ m .log .base
   pub atEnd : end (m′ .log) ≡ farthest m (counting xs)
@@ -198,15 +202,19 @@ pub record Closed (U : List Key) (m : Market) (xs : List Call) (m′ : Market) (
   pub once : books out ≡ numbered (end (m .log)) newer
   pub applied : (k : Key) → appliedOf k m′ ≡ highest k m (printing k xs)
   pub rise : (k : Key) → appliedOf k m + copies k out ≡ appliedOf k m′
+  pub answered : Each ApplyOrDuplicate said
+  pub delivered : (k : Key) (c : ℕ) → deliveredOf k c m′ ≡ deliveredOf k c m + printsBy k c xs
+  pub sent : Each (Sent m xs) out
 
 copies-append : (k : Key) (a b : List Applied) → copies k (a ++ b) ≡ copies k a + copies k b
 unfolding copies
 copies-append k [] b = omega arith
 copies-append k (r ∷ rs) b = let h = copies-append k rs b in omega arith
 
-closed-none : (U : List Key) (m : Market) → Going U m [] → Closed U m [] m []
-unfolding books numbered copies
+closed-none : (U : List Key) (m : Market) → Going U m [] → Closed U m [] m [] []
+unfolding books numbered copies printsBy
 closed-none U m g = record {
+  limits = refl;
   lines = lines-none (m .lines);
   base = refl;
   atEnd = sym (far-none U m g);
@@ -217,11 +225,16 @@ closed-none U m g = record {
   once = refl;
   applied = λ k. top-none k m;
   rise = λ k. omega arith;
+  answered = tt;
+  delivered = λ k c. omega arith;
+  sent = tt;
 }
 
-closed-step : (U : List Key) (m : Market) (x : Call) (xs : List Call) (m₁ m₂ : Market) (o₁ o₂ : List Applied) → Next U m x xs m₁ o₁ → Closed U m₁ xs m₂ o₂ → Closed U m (x ∷ xs) m₂ (o₁ ++ o₂)
-closed-step U m x xs m₁ m₂ o₁ o₂ n c =
+closed-step : (U : List Key) (m : Market) (x : Call) (xs : List Call) (m₁ m₂ : Market) (o₁ o₂ : List Applied) (s₁ : Said) (s₂ : List Said)
+    → Goes m x → ApplyOrDuplicate s₁ → Next U m x xs m₁ o₁ → Closed U m₁ xs m₂ o₂ s₂ → Closed U m (x ∷ xs) m₂ (o₁ ++ o₂) (s₁ ∷ s₂)
+closed-step U m x xs m₁ m₂ o₁ o₂ s₁ s₂ goes s n c =
     let l = n .log in record {
+      limits = c .limits ∙ n .limits;
       lines = c .lines ∙ l .lines;
       base = c .base ∙ l .base;
       atEnd = c .atEnd ∙ l .far;
@@ -234,14 +247,20 @@ closed-step U m x xs m₁ m₂ o₁ o₂ n c =
           ∙ sym (numbered-append (end (m .log)) (l .newer) (c .newer));
       applied = λ k. c .applied k ∙ n .prints .tops k;
       rise = λ k. let a = n .prints .rise k in let b = c .rise k in let d = copies-append k o₁ o₂ in omega arith;
+      answered = (s, c .answered);
+      delivered = λ k d. c .delivered k d ∙ n .prints .deliveries k d;
+      sent = each-append (Sent m (x ∷ xs)) o₁ o₂ (n .sent)
+          (each-imp (Sent m₁ xs) (Sent m (x ∷ xs)) (sent-later m m₁ x xs goes (l .goers) (l .lines)) o₂ (c .sent));
     }
 
-pub closed-of : (U : List Key) (xs : List Call) (m : Market) → Going U m xs → Unrefused m xs → Closed U m xs (after m xs) (records m xs)
-unfolding Unrefused after records
+pub closed-of : (U : List Key) (xs : List Call) (m : Market) → Going U m xs → Unrefused m xs → Closed U m xs (after m xs) (records m xs) (answers m xs)
+unfolding Unrefused after records answers
 closed-of U [] m g u = closed-none U m g
 closed-of U (x ∷ xs) m g u = go (step x m) (judged U m x xs g) u (λ m′ g′ u′. closed-of U xs m′ g′ u′)
   where
-    go : (o : Outcome) → Judged U m x xs o → Passed o (λ m′. Unrefused m′ xs) → ((m′ : Market) → Going U m′ xs → Unrefused m′ xs → Closed U m′ xs (after m′ xs) (records m′ xs))
-        → Closed U m (x ∷ xs) (after (marketAfter o m) xs) (recordsOf o ++ records (marketAfter o m) xs)
+    go : (o : Outcome) → Judged U m x xs o → Passed o (λ m′. Unrefused m′ xs)
+        → ((m′ : Market) → Going U m′ xs → Unrefused m′ xs → Closed U m′ xs (after m′ xs) (records m′ xs) (answers m′ xs))
+        → Closed U m (x ∷ xs) (after (marketAfter o m) xs) (recordsOf o ++ records (marketAfter o m) xs) (saidBy o ∷ answers (marketAfter o m) xs)
     go (refused n) j p ih = absurd p
-    go (did a rs w) j p ih = closed-step U m x xs (w .market) (after (w .market) xs) (w .out) (records (w .market) xs) j (ih (w .market) (going-next U m x xs (w .market) (w .out) g j) p)
+    go (did a rs w) j p ih = closed-step U m x xs (w .market) (after (w .market) xs) (w .out) (records (w .market) xs)
+        (saidBy (did a rs w)) (answers (w .market) xs) (g .theirs .0) (j .0) (j .1) (ih (w .market) (going-next U m x xs (w .market) (w .out) g (j .1)) p)

@@ -50,12 +50,23 @@ abbrev pub ofChanged : Changed → Said
 ofChanged Changed.Done = word done 0 0
 ofChanged (Changed.Refused n) = number n
 
--- a query says yes or no
-abbrev pub asked : Bool → Asked
-asked true = Asked.Yes
-asked false = Asked.No
+-- what a query or a view says: a refusal's number, or a value
+pub data Queried (A : Type 0) : Type 0 where
+  refusal : ℕ → Queried A
+  value : A → Queried A
 
--- a view says how many messages it wrote
-abbrev pub viewed : Option (List ℕ) → Viewed
-viewed none = Viewed.Refused 3
-viewed (some ms) = Viewed.Messages (length ms)
+-- a query's value is yes or no
+abbrev pub ofAsked : Asked → Queried Bool
+ofAsked Asked.Yes = value true
+ofAsked Asked.No = value false
+ofAsked (Asked.Refused n) = refusal n
+
+-- a view's value is how many messages it wrote
+abbrev pub ofViewed : Viewed → Queried ℕ
+ofViewed (Viewed.Messages n) = value n
+ofViewed (Viewed.Refused n) = refusal n
+
+-- what the rules make of a view
+abbrev pub viewed : Option (List ℕ) → Queried ℕ
+viewed none = refusal 3
+viewed (some ms) = value (length ms)

@@ -1,21 +1,23 @@
 -- Demand 3 as one claim over a list of calls from the market that setup made: what it speaks of, and its statement.
 use mathlib.Core.Path.{_≡_}
+use mathlib.Core.Logic.{_⊎_}
 use mathlib.Core.List.{List, [], _∷_, _++_, map}
 use mathlib.Core.Bool.{Bool, true, false, _&&_, cond}
-use Prim.Native.Nat.{ℕ, suc, _+_, _-_, _≤_}
+use Prim.Native.Nat.{ℕ, suc, _+_, _-_, _≤_, _<_}
 use lib.Dec.{ltb, eqb}
 use lib.ListN.{length, take, drop}
 use Rattle.rules.specs.declared.Limits.{Limits}
 use Rattle.rules.specs.declared.Kind.{Kind}
 use Rattle.rules.specs.declared.Kind.the-variants as Kind
 use Rattle.rules.specs.declared.Applied.{Applied}
-use Rattle.rules.specs.Lists.{keep, any, sum, largest, count, Each}
-use Rattle.rules.specs.Quantities.{Key, same}
+use Rattle.rules.specs.Lists.{keep, any, sum, largest, count, Each, In}
+use Rattle.rules.specs.Quantities.{Key, same, bookOut}
 use Rattle.rules.specs.Log.{keys, end}
 use Rattle.rules.specs.Prints.{appliedIn, deliveredIn}
 use Rattle.rules.specs.Lines.{Line, Waiting, Pending, InLine, Failed, Connection, Market, fresh, lineOf, connAt, isPending, isInLine}
 use Rattle.rules.specs.Calls.{Answer, done, apply, duplicate, held, ignored, diverged, failed, kept, gone, rebuild, Outcome, refused, did}
 use Rattle.rules.specs.Refusals.{Call, Subscribe, Snapshot, BookEvent, Print, Drop, Promote, Reset, Tick, step}
+use Rattle.rules.specs.Answers.{Said, word, saidBy}
 
 -- ---- what a list of calls leaves behind, beside the market
 
@@ -193,6 +195,15 @@ unfoldable pub records : Market → List Call → List Applied
 records m [] = []
 records m (x ∷ xs) = recordsOf (step x m) ++ records (marketAfter (step x m) m) xs
 
+-- what each call is answered
+unfoldable pub answers : Market → List Call → List Said
+answers m [] = []
+answers m (x ∷ xs) = saidBy (step x m) ∷ answers (marketAfter (step x m) m) xs
+
+-- Apply of one record, or Duplicate
+abbrev pub ApplyOrDuplicate : Said → Type 0
+ApplyOrDuplicate a = (a ≡ word apply 1 0) ⊎ (a ≡ word duplicate 0 0)
+
 -- a line with k more events; its reach, 0 if it is not in line
 abbrev pub forward : ℕ → Line → Line
 forward k (Waiting is since) = Waiting is since
@@ -205,6 +216,13 @@ reach k (Waiting is since) = 0
 reach k (Pending is at since) = 0
 reach k (InLine n a b) = n + k
 reach k Failed = 0
+
+-- a line's next number, 0 if it is not in line
+abbrev pub nextOf : Line → ℕ
+nextOf (Waiting is since) = 0
+nextOf (Pending is at since) = 0
+nextOf (InLine n a b) = n
+nextOf Failed = 0
 
 abbrev pub advanced : (ℕ → ℕ) → Connection → Connection
 advanced f s = record { conn = s .conn; line = forward (f (s .conn)) (s .line); held = s .held }
@@ -232,6 +250,46 @@ unfoldable pub numbered : ℕ → List Key → List (ℕ × Key)
 numbered n [] = []
 numbered n (k ∷ ks) = (n, k) ∷ numbered (suc n) ks
 
+-- a connection's own book events as records, numbered from n, each with its call's message
+abbrev pub ownBook : ℕ → ℕ → Call → (ℕ → List Applied) → List Applied
+ownBook c n (Subscribe d now) l = l n
+ownBook c n (Snapshot d i msg now room) l = l n
+ownBook c n (BookEvent d k msg now room) l = cond (eqb d c) (bookOut c n k msg ∷ l (suc n)) (l n)
+ownBook c n (Print d k msg now room) l = l n
+ownBook c n (Drop d now room) l = l n
+ownBook c n (Promote now room) l = l n
+ownBook c n (Reset now) l = l n
+ownBook c n (Tick answers now room reports) l = l n
+
+unfoldable pub ownBooks : ℕ → ℕ → List Call → List Applied
+ownBooks c n [] = []
+ownBooks c n (x ∷ xs) = ownBook c n x (λ j. ownBooks c j xs)
+
+-- a connection's own prints: key and message
+abbrev pub ownPrint : ℕ → Call → List (Key × ℕ) → List (Key × ℕ)
+ownPrint c (Subscribe d now) l = l
+ownPrint c (Snapshot d i msg now room) l = l
+ownPrint c (BookEvent d k msg now room) l = l
+ownPrint c (Print d k msg now room) l = cond (eqb d c) ((k, msg) ∷ l) l
+ownPrint c (Drop d now room) l = l
+ownPrint c (Promote now room) l = l
+ownPrint c (Reset now) l = l
+ownPrint c (Tick answers now room reports) l = l
+
+unfoldable pub ownPrints : ℕ → List Call → List (Key × ℕ)
+ownPrints c [] = []
+ownPrints c (x ∷ xs) = ownPrint c x (ownPrints c xs)
+
+-- where a record comes from: it is no snapshot; a book record is its connection's own event of that number and key, with that
+-- call's message; a print record has a key and message that its connection delivered, at least one copy, and number 0
+abbrev pub SentAs : Kind → Market → List Call → Applied → Type 0
+SentAs Kind.Snapshot m xs r = ⊥
+SentAs Kind.Book m xs r = In r (ownBooks (r .conn) (nextOf (lineFor (r .conn) m)) xs)
+SentAs Kind.Print m xs r = In (r .key, r .message) (ownPrints (r .conn) xs) × (0 < r .times) × (r .number ≡ 0)
+
+abbrev pub Sent : Market → List Call → Applied → Type 0
+Sent m xs r = SentAs (r .kind) m xs r
+
 -- the calls xs are of connections in line, and each one's book events follow from its next number the common list U, which begins with the log
 pub record GoesOn (m : Market) (U : List Key) (xs : List Call) : Type 0 where
   pub theirs : Each (Goes m) xs
@@ -239,8 +297,9 @@ pub record GoesOn (m : Market) (U : List Key) (xs : List Call) : Type 0 where
   pub follows : (c n : ℕ) (a b : Bool) → lineFor c m ≡ InLine n a b
       → take (length (eventsOf c xs)) (drop (n - m .log .base) U) ≡ eventsOf c xs
 
--- how the calls xs end, in whatever order they come: m′ after them, out put out
-pub record Ends (m : Market) (U : List Key) (xs : List Call) (m′ : Market) (out : List Applied) : Type 0 where
+-- how the calls xs end, in whatever order they come: m′ after them, out put out, said answered
+pub record Ends (m : Market) (U : List Key) (xs : List Call) (m′ : Market) (out : List Applied) (said : List Said) : Type 0 where
+  pub limits : m′ .limits ≡ m .limits
   -- each next becomes its reach
   pub lines : m′ .lines ≡ map (advanced (λ c. length (eventsOf c xs))) (m .lines)
   pub base : m′ .log .base ≡ m .log .base
@@ -251,6 +310,12 @@ pub record Ends (m : Market) (U : List Key) (xs : List Call) (m′ : Market) (ou
   pub applied : (k : Key) → appliedOf k m′ ≡ highest k m (λ c. printsBy k c xs)
   -- a key's copies are the rise of applied
   pub rise : (k : Key) → appliedOf k m + copies k out ≡ appliedOf k m′
+  -- free: which calls are answered Apply; the others Duplicate
+  pub answered : Each ApplyOrDuplicate said
+  -- delivered before plus prints here
+  pub delivered : (k : Key) (c : ℕ) → deliveredOf k c m′ ≡ deliveredOf k c m + printsBy k c xs
+  -- free: whose message a record has, how copies split, the order of the records (and stamps); what holds of it
+  pub sent : Each (Sent m xs) out
 
 pub record Demand (start : ℕ) (h : History) : Type 0 where
   -- numbered from the start number in the order put out, without gap or repeat
@@ -262,7 +327,7 @@ pub record Demand (start : ℕ) (h : History) : Type 0 where
       → ((c n : ℕ) (a b : Bool) → lineFor c (h .market) ≡ InLine n a b → h .market .log .base ≤ n)
       → (U : List Key) (xs : List Call) → GoesOn (h .market) U xs → Unrefused (h .market) xs
       → (ys : List Call) → ((c : ℕ) → own c ys ≡ own c xs)
-      → Unrefused (h .market) ys × Ends (h .market) U xs (after (h .market) ys) (records (h .market) ys)
+      → Unrefused (h .market) ys × Ends (h .market) U xs (after (h .market) ys) (records (h .market) ys) (answers (h .market) ys)
 
 abbrev pub Demand3 : Type 0
 Demand3 = (l : Limits) (start : ℕ) (xs : List Call) → Demand start (run (setUp l start) xs)

@@ -1,4 +1,6 @@
 -- Lists with tests. Nothing here is about markets.
+use mathlib.Core.Path.{_≡_}
+use mathlib.Core.Logic.{_⊎_}
 use mathlib.Core.List.{List, [], _∷_}
 use mathlib.Core.Option.{Option, none, some}
 use mathlib.Core.Bool.{Bool, true, false, _||_, cond}
@@ -60,6 +62,11 @@ module _ {A : Type 0} where
   abbrev pub Each : (A → Type 0) → List A → Type 0
   Each P [] = Unit {0}
   Each P (x ∷ xs) = P x × Each P xs
+
+  -- x stands in the list
+  abbrev pub In : A → List A → Type 0
+  In x [] = ⊥
+  In x (y ∷ ys) = (x ≡ y) ⊎ In x ys
 
   -- each stands in the relation R to all behind it
   unfoldable pub Rising : (A → A → Type 0) → List A → Type 0

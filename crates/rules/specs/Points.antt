@@ -133,6 +133,9 @@ points =
     ∷ says (two ++ (printOf 1 9 ∷ printOf 1 9 ∷ printOf 2 9 ∷ printOf 2 9 ∷ printOf 2 9 ∷ [])) (answer apply (putPrint 2 9 1 ∷ []) [])
     -- print while Waiting, subscribe again, snapshot 0 with nobody in line, print: times 2
     ∷ says (Subscribe 1 0 ∷ printOf 1 9 ∷ Subscribe 1 0 ∷ snap 1 0 0 ∷ printOf 1 9 ∷ []) (answer apply (putPrint 1 9 2 ∷ []) [])
+    -- held, released by a take-over, printed again: a release leaves applied = delivered
+    ∷ says (Subscribe 1 0 ∷ printOf 1 9 ∷ snap 1 0 0 ∷ []) (answer apply (putSnap 1 ∷ putPrint 1 9 1 ∷ []) [])
+    ∷ says (Subscribe 1 0 ∷ printOf 1 9 ∷ snap 1 0 0 ∷ printOf 1 9 ∷ []) (answer apply (putPrint 1 9 1 ∷ []) [])
     -- a print key untouched for 30,000 stays, for 30,001 goes
     ∷ says (two ++ (printOf 1 9 ∷ tickAt 30000 (0 ∷ 0 ∷ []) ∷ printOf 2 9 ∷ [])) (answer duplicate [] [])
     ∷ says (two ++ (printOf 1 9 ∷ tickAt 30001 (0 ∷ 0 ∷ []) ∷ printOf 2 9 ∷ [])) (answer apply (putPrint 2 9 1 ∷ []) [])

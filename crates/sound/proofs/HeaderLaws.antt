@@ -2,20 +2,22 @@
 use mathlib.Core.Path.{_≡_, sym, ap, _∙_, subst}
 use mathlib.Core.List.{List}
 use mathlib.Core.Bool.{Bool, true, false}
-use Prim.Native.Nat.{ℕ, _≤_, _<_}
+use Prim.Native.Nat.{ℕ, _+_, _^_, _≤_, _<_}
 use native.Mathlib.Omega.{arith}
-use lib.ListN.{length, getD}
+use lib.ListN.{length}
 use Rattle.rules.specs.declared.Limits.{Limits}
 use Rattle.rules.specs.Quantities.{inRange, wordsNeeded}
 use Rattle.rules.specs.Prints.{Prints}
 use Rattle.rules.specs.Sound.{TablesSound}
 use Rattle.rules.proofs.Tests.{ff≢tt}
 use Rattle.words.specs.Words.{Says}
-use Rattle.words.proofs.Parts.{part-length, getD-part}
+use Rattle.words.proofs.Parts.{part-length}
+use Rattle.log.specs.declared.Head.{Head}
 use Rattle.prints.specs.declared.Used.{Used}
 use Rattle.prints.specs.Area.{printsOf, Fits}
-use Rattle.store.specs.Store.{limitsOf, headOf, usedOf, tablesAt, linesAt, tableWords, marketOf, Sized}
+use Rattle.store.specs.Store.{limitsOf, headOf, lineCount, usedOf, tablesAt, linesAt, tableWords, marketOf, Sized}
 use Rattle.store.specs.Moves.{Counts}
+use Rattle.store.proofs.MarketLaws.{market-prints}
 use Rattle.sound.specs.Parts.{Ranged}
 use Rattle.sound.proofs.RangeLaws.{bounds}
 
@@ -38,24 +40,32 @@ module _ (w : List ℕ) (l : Limits) (q : l ≡ limitsOf w) where
         range = range;
       }
 
--- ---- the log's head
+-- ---- the header's counts, as they are read
 
-module _ (w : List ℕ) where
-  pub base-word : headOf w .base ≡ getD w 5 0
-  base-word = getD-part 5 9 w 0 (omega arith)
+pub record CountsFit (l : Limits) (h : Head) (n : ℕ) (u : Used) : Type 0 where
+  pub entries : h .count ≤ l .G
+  pub numbers : h .base + h .count < 2 ^ 64
+  pub lines : n ≤ l .L
+  pub keys : u .keys ≤ l .C
+  pub pairs : u .counts ≤ l .D
 
-  pub count-word : headOf w .count ≡ getD w 6 0
-  count-word = getD-part 5 9 w 1 (omega arith)
+module _ (w : List ℕ) {l : Limits} {h : Head} {n : ℕ} {u : Used} (p : l ≡ limitsOf w) (q : h ≡ headOf w) (r : n ≡ lineCount w) (t : u ≡ usedOf w) where
+  pub counts-read : Counts w → CountsFit l h n u
+  counts-read c = rw (p, q, r, t) (record { entries = c .entries; numbers = c .numbers; lines = c .lines; keys = c .keys; pairs = c .pairs })
+
+  pub counts-told : CountsFit l h n u → Counts w
+  counts-told f =
+      let c : CountsFit (limitsOf w) (headOf w) (lineCount w) (usedOf w) = rw (p, q, r, t) at f in
+      record { entries = c .entries; numbers = c .numbers; lines = c .lines; keys = c .keys; pairs = c .pairs }
 
 -- ---- the print tables
 
-module _ (w x : List ℕ) (u : Used) (p : x ≡ tableWords w) (q : u ≡ usedOf w) where
-  pub tables-ready : Sized w → Counts w → Fits (limitsOf w .C) x u
-  tables-ready z c =
-      let k = part-length (tablesAt (limitsOf w)) (linesAt (limitsOf w)) w (omega (arith, z .long)) in
+module _ (w x : List ℕ) (c : ℕ) (u : Used) (k : c ≡ limitsOf w .C) (p : x ≡ tableWords w) (q : u ≡ usedOf w) where
+  pub tables-ready : Sized w → Counts w → Fits c x u
+  tables-ready z n =
+      let l = part-length (tablesAt (limitsOf w)) (linesAt (limitsOf w)) w (omega (arith, z .long)) in
       let pairs : u .counts ≡ usedOf w .counts = ap (λ (y : Used). y .counts) q in
-      record { keys = omega (arith, ap (λ (y : Used). y .keys) q, c .keys); counts = omega (arith, ap length p, k, c .pairs) }
+      record { keys = omega (arith, ap (λ (y : Used). y .keys) q, n .keys); counts = omega (arith, ap length p, l, n .pairs) }
 
-  pub tables-say : (r : Bool) → Says r (TablesSound (printsOf (limitsOf w .C) x u)) → Says r (TablesSound (marketOf w .prints))
-  unfolding marketOf
-  tables-say r s = subst (λ (y : Prints). Says r (TablesSound y)) (λ j. printsOf (limitsOf w .C) (p j) (q j)) s
+  pub tables-say : (r : Bool) → Says r (TablesSound (printsOf c x u)) → Says r (TablesSound (marketOf w .prints))
+  tables-say r s = subst (λ (y : Prints). Says r (TablesSound y)) ((λ j. printsOf (k j) (p j) (q j)) ∙ sym (market-prints w)) s

@@ -13,6 +13,7 @@ use Rattle.words.specs.Words.{tab, Says}
 use Rattle.lines.specs.AreaSound.{LineFits, AreaSound}
 use Rattle.store.specs.Store.{limitsOf, headOf, lineCount, lineWordsAt, connIn, marketOf, Sized}
 use Rattle.store.specs.Moves.{Counts}
+use Rattle.store.proofs.MarketLaws.{market-lines}
 use Rattle.sound.specs.Parts.{Above, SoundAt, EachSound}
 
 -- a test of P tells Q, where each follows from the other
@@ -22,11 +23,11 @@ says-as P Q f g false s = λ q. s (g q)
 
 -- ---- one line
 
-pub line-says : (w v : List ℕ) (e i : ℕ) (r : Bool) → v ≡ lineWordsAt w i → Above w i → Says r (AreaSound (limitsOf w .H) e v) → Says r (SoundAt w e i)
-line-says w v e i r q a s =
-    says-as (AreaSound (limitsOf w .H) e v) (SoundAt w e i)
-    (λ k. record { above = a; area = subst (AreaSound (limitsOf w .H) e) q k })
-    (λ k. subst (AreaSound (limitsOf w .H) e) (sym q) (k .area))
+pub line-says : (w v : List ℕ) (h e i : ℕ) (r : Bool) → h ≡ limitsOf w .H → v ≡ lineWordsAt w i → Above w i → Says r (AreaSound h e v) → Says r (SoundAt w e i)
+line-says w v h e i r p q a s =
+    says-as (AreaSound h e v) (SoundAt w e i)
+    (λ k. record { above = a; area = rw (p, q) at k })
+    (λ k. rw (p, q) (k .area))
     r
     s
 
@@ -56,11 +57,10 @@ sum-few g m (suc n) f h =
 
 -- 16 lines of 5008
 pub items-few : (w : List ℕ) → Sized w → Counts w → EachSound w → itemCount (marketOf w .lines) ≤ 80128
-unfolding marketOf
 items-few w z c ls =
     let e : ℕ = headOf w .base + headOf w .count in
     let m : ℕ = limitsOf w .H + 8 in
     let a : itemCount (tab (lineCount w) (connIn w)) ≤ lineCount w * m =
     sum-few (λ (s : Rules.Connection). length (itemsOf (s .line))) m (lineCount w) (connIn w) (λ i h. few (limitsOf w .H) e (connIn w i .line) (ls i h .area .line)) in
     let n : lineCount w ≤ 16 = omega arith in
-    omega (arith, mul-le-mul-right m n)
+    rw (market-lines w) (omega (arith, mul-le-mul-right m n))

@@ -9,15 +9,14 @@ use Rattle.rules.specs.declared.Limits.{Limits}
 use Rattle.rules.specs.Lists.{Each, Rising}
 use Rattle.rules.specs.Lines as Rules
 use Rattle.rules.specs.Sound.{ConnSound, LineSound, Lower, TablesSound}
-use Rattle.words.specs.Words.{Says}
+use Rattle.words.specs.Words.{tab, Says}
 use Rattle.words.proofs.Cases.{below-or}
-use Rattle.log.specs.Log.{logOf}
 use Rattle.prints.proofs.Lists.{each-of, each-in, rising-of, rising-in}
 use Rattle.lines.specs.AreaSound.{LineFits}
 use Rattle.store.specs.Store.{limitsOf, headOf, lineCount, connIn, marketOf, Sound}
 use Rattle.store.specs.Moves.{Counts}
-use Rattle.store.proofs.EntryLaws.{entry-count, log-ends, line-count, key-count, pair-count}
-use Rattle.store.proofs.ConnLaws.{conn-words, prints-counted, fits-sound}
+use Rattle.store.proofs.MarketLaws.{market-limits, market-lines, log-ends, entry-count, lines-count, key-count, pair-count, conn-words}
+use Rattle.store.proofs.ConnLaws.{prints-counted, fits-sound}
 use Rattle.sound.specs.Parts.{Ranged, EachSound, ItemsFit}
 use Rattle.sound.proofs.LineLaws.{says-as}
 
@@ -45,58 +44,55 @@ up f n h i (suc j) l m =
 module _ (w : List ℕ) where
   -- ---- from the lines to the market's, and back
   rises : EachSound w → Rising Lower (marketOf w .lines)
-  unfolding marketOf
   rises ls =
-      rising-of Lower (lineCount w) (connIn w)
+      rw (market-lines w)
+      (rising-of Lower (lineCount w) (connIn w)
       (up (λ i. connIn w i .conn) (lineCount w)
-      (λ k h p. rw (← conn-words w (k - 1) (omega arith), ← conn-words w k h) (ls k h .above p)))
+      (λ k h p. rw (conn-words w (k - 1) (omega arith), conn-words w k h) at (ls k h .above p))))
 
   conns : EachSound w → Each (ConnSound (limitsOf w) (headOf w .base + headOf w .count)) (marketOf w .lines)
-  unfolding marketOf
   conns ls =
       let e : ℕ = headOf w .base + headOf w .count in
-      each-of (ConnSound (limitsOf w) e) (lineCount w) (connIn w) (λ i h. (
+      rw (market-lines w)
+      (each-of (ConnSound (limitsOf w) e) (lineCount w) (connIn w) (λ i h. (
         of-fits (limitsOf w) e (connIn w i .line) (ls i h .area .line),
-        rw (← conn-words w i h, ← prints-counted w i h) (ls i h .area .prints),
-      ))
+        rw (prints-counted w i h, conn-words w i h) at (ls i h .area .prints),
+      )))
 
   pub lines-of : Sound w → EachSound w
-  unfolding marketOf
   lines-of s i h =
       let e : ℕ = headOf w .base + headOf w .count in
-      let c = each-in (ConnSound (limitsOf w) e) (lineCount w) (connIn w) (rw (log-ends w) at (s .market .lines .conns)) i h in
+      let c = each-in (ConnSound (limitsOf w) e) (lineCount w) (connIn w) (rw (market-limits w, log-ends w, market-lines w) at (s .market .lines .conns)) i h in
+      let r : Rising Lower (tab (lineCount w) (connIn w)) = rw (market-lines w) at (s .market .lines .rises) in
       record {
-        above = λ p. rw (conn-words w (i - 1) (omega arith), conn-words w i h) (rising-in Lower (lineCount w) (connIn w) (s .market .lines .rises) (i - 1) i (omega arith) h);
+        above = λ p. rw (conn-words w (i - 1) (omega arith), conn-words w i h) (rising-in Lower (lineCount w) (connIn w) r (i - 1) i (omega arith) h);
         area = record { kind = s .kinds i h; prints = rw (prints-counted w i h) (fits-sound w s i h .prints); line = fits-of (limitsOf w) e (connIn w i .line) (c .0) };
       }
 
   -- ---- the whole
   sound-of : Ranged w → Counts w → TablesSound (marketOf w .prints) → EachSound w → ItemsFit w → Sound w
-  unfolding marketOf logOf
   sound-of r c t ls f =
       record {
         sized = r .sized;
         kinds = λ i h. ls i h .area .kind;
         market = record {
-          limitsFit = r .range;
+          limitsFit = rw (market-limits w) (r .range);
           lines = record {
-            linesFit = rw (line-count w) (c .lines);
+            linesFit = rw (lines-count w, market-limits w) (c .lines);
             rises = rises ls;
-            conns = rw (entry-count w) (conns ls);
-            logFits = rw (entry-count w) (f .events);
-            numbersFit = rw (entry-count w) (f .numbers);
+            conns = rw (market-limits w, log-ends w) (conns ls);
+            logFits = rw (market-limits w, entry-count w) (f .events);
+            numbersFit = rw (log-ends w) (f .numbers);
           };
-          prints = record { keysFit = rw (key-count w) (c .keys); pairsFit = rw (pair-count w) (c .pairs); tables = t };
+          prints = record { keysFit = rw (key-count w, market-limits w) (c .keys); pairsFit = rw (pair-count w, market-limits w) (c .pairs); tables = t };
         };
       }
 
   items-of : Sound w → ItemsFit w
-  unfolding marketOf logOf
-  items-of s = record { events = rw (entry-count w) at (s .market .lines .logFits); numbers = rw (entry-count w) at (s .market .lines .numbersFit) }
+  items-of s = record { events = rw (entry-count w, market-limits w) at (s .market .lines .logFits); numbers = rw (log-ends w) at (s .market .lines .numbersFit) }
 
   pub ranged-of : Sound w → Ranged w
-  unfolding marketOf
-  ranged-of s = record { sized = s .sized; range = s .market .limitsFit }
+  ranged-of s = record { sized = s .sized; range = rw (market-limits w) at (s .market .limitsFit) }
 
   pub whole-says : Ranged w → Counts w → TablesSound (marketOf w .prints) → EachSound w → (b : Bool) → Says b (ItemsFit w) → Says b (Sound w)
   whole-says r c t ls b s = says-as (ItemsFit w) (Sound w) (sound-of r c t ls) items-of b s

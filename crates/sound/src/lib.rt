@@ -1,12 +1,10 @@
 // Whether any words are a sound store.
 ghost use mathlib.Core.Path.{_≡_};
 ghost use mathlib.Core.Bool.{true};
-ghost use Prim.Native.Nat.{_+_, _≤_};
-ghost use lib.ListN.{length};
 ghost use Rattle.rules.specs.Quantities.{inRange, wordsNeeded};
 ghost use Rattle.rules.specs.Sound.{TablesSound};
 ghost use Rattle.words.specs.Words.{Says};
-ghost use Rattle.store.specs.Store.{limitsOf, marketOf, Sized, Sound};
+ghost use Rattle.store.specs.Store.{marketOf, Sized, Sound};
 ghost use Rattle.store.specs.Moves.{Counts};
 ghost use Rattle.store.specs.ConnMoves.{LineAt};
 ghost use Rattle.sound.specs.Parts.{Ranged, Above, SoundAt, EachSound, ItemsFit};
@@ -35,20 +33,6 @@ pub fn words_needed(l: Limits) -> u64
     64 + l.L * (7 * l.H + 64) + 3 * l.G + 4 * l.C + 4 * l.D
 }
 
-// The limits that a header says.
-fn limits(s: &[u64]) -> Limits
-    requires { ⌜ 64 ≤ length (now s) ⌝ }
-    ensures { λ r. ⌜ r ≡ limitsOf (now (s .entry)) ⌝ }
-{
-    Limits {
-        L: s[0],
-        H: s[1],
-        G: s[2],
-        C: s[3],
-        D: s[4],
-    }
-}
-
 // Whether the words are long enough for their limits, which are in range.
 fn sized(s: &[u64]) -> bool
     ensures { λ r. ⌜ Says r (Ranged (now (s .entry))) ⌝ }
@@ -56,7 +40,7 @@ fn sized(s: &[u64]) -> bool
     if s.len() < 64 {
         return false;
     }
-    let l = limits(s);
+    let l = store::entries::limits(s);
     if !in_range(l) {
         return false;
     }
@@ -71,19 +55,24 @@ fn counted(s: &[u64]) -> bool
     requires { ⌜ Sized (now s) ⌝ }
     ensures { λ r. ⌜ Says r (Counts (now (s .entry))) ⌝ }
 {
-    if s[2] < s[6] {
+    let l = store::entries::limits(s);
+    let head = store::entries::head(s);
+    let count = head.count as u64;
+    let lines = store::conns::count(s) as u64;
+    let used = store::tables::used(s);
+    if l.G < count {
         return false;
     }
-    if MAX_NUMBER - s[6] < s[5] {
+    if MAX_NUMBER - count < head.base {
         return false;
     }
-    if s[0] < s[9] {
+    if l.L < lines {
         return false;
     }
-    if s[3] < s[10] {
+    if l.C < used.keys as u64 {
         return false;
     }
-    if s[4] < s[11] {
+    if l.D < used.counts as u64 {
         return false;
     }
     true
@@ -94,7 +83,7 @@ fn tables_sound(s: &[u64]) -> bool
     requires { ⌜ (Sized (now s)) × (Counts (now s)) ⌝ }
     ensures { λ r. ⌜ Says r (TablesSound (marketOf (now (s .entry)) .prints)) ⌝ }
 {
-    let c = s[3] as usize;
+    let c = store::entries::limits(s).C as usize;
     prints::tables_sound(store::tables::area(s), c, store::tables::used(s))
 }
 
@@ -119,7 +108,7 @@ fn line_sound(s: &[u64], i: usize, end: u64) -> bool
     ensures { λ r. ⌜ Says r (SoundAt (now (s .entry)) end i) ⌝ }
 {
     if above(s, i) {
-        let h = s[1] as usize;
+        let h = store::conns::held_limit(s);
         return lines::area::sound(store::conns::line_words(s, i), h, end);
     }
     false
@@ -130,8 +119,8 @@ fn lines_sound(s: &[u64]) -> bool
     requires { ⌜ (Sized (now s)) × (Counts (now s)) ⌝ }
     ensures { λ r. ⌜ Says r (EachSound (now (s .entry))) ⌝ }
 {
-    let n = s[9] as usize;
-    let end = s[5] + s[6];
+    let n = store::conns::count(s);
+    let end = store::entries::end(s);
     let mut i = 0;
     while i < n {
         if !line_sound(s, i, end) {
@@ -147,11 +136,12 @@ fn items_fit(s: &[u64]) -> bool
     requires { ⌜ (Sized (now s)) × ((Counts (now s)) × (EachSound (now s))) ⌝ }
     ensures { λ r. ⌜ Says r (ItemsFit (now (s .entry))) ⌝ }
 {
-    let all = s[6] + store::conns::held_items(s) as u64;
-    if s[2] < all {
+    let l = store::entries::limits(s);
+    let all = store::entries::count(s) as u64 + store::conns::held_items(s) as u64;
+    if l.G < all {
         return false;
     }
-    if MAX_NUMBER - s[5] < all {
+    if MAX_NUMBER - store::entries::base(s) < all {
         return false;
     }
     true

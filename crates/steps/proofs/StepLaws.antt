@@ -8,6 +8,7 @@ use lib.Dec.{ltb, eqb}
 use lib.ListN.{length, getD, drop, drop-of-length-le}
 use lib.Seq.{drop-cons}
 use borrow.Author.Tests.{ltb-false, lt-ltb, le-ltb, eqb-true, eq-eqb, ne-eqb}
+use Rattle.rules.specs.declared.Limits.{Limits}
 use Rattle.rules.specs.Lists.{any}
 use Rattle.rules.specs.Lines.{lineOf}
 use Rattle.rules.specs.Calls.{Outcome, refuse, snapshot}
@@ -16,7 +17,7 @@ use Rattle.rules.specs.Refusals.{Call, Snapshot, Tick, step, short, roomNeeded,
 use Rattle.rules.specs.Answers.{Said, number}
 use Rattle.rules.proofs.Tests.{ff≢tt}
 use Rattle.store.specs.Store.{limitsOf, lineCount, marketOf, Sound}
-use Rattle.store.proofs.ConnLaws.{lines-count}
+use Rattle.store.proofs.MarketLaws.{market-limits, lines-count}
 use Rattle.market.specs.Lent.{Lent, lent, lineFor, Answers, Roomy}
 use Rattle.market_tick.specs.Turns.{lentAll}
 use Rattle.market.proofs.AnswerLaws.{refuses}
@@ -27,9 +28,14 @@ use Rattle.steps.specs.Steps.{Steps, records, reportRoom}
 seven : (n m : ℕ) → n ≤ m / 7 → 7 * n ≤ m
 seven n m h = omega arith
 
+-- by the limits of the words
+pub short-said : (w : List ℕ) (n : ℕ) (l : Limits) → l ≡ limitsOf w → ltb n (roomNeeded l) ≡ short n (marketOf w)
+short-said w n l e = ap (λ (x : Limits). ltb n (roomNeeded x)) (e ∙ sym (market-limits w))
+
 pub roomy : (w v : List ℕ) → Sound w → short (records v) (marketOf w) ≡ false → Roomy w v
-unfolding marketOf
-roomy w v s e = record { sound = s; room = seven (roomNeeded (limitsOf w)) (length v) (ltb-false (records v) (roomNeeded (limitsOf w)) e) }
+roomy w v s e =
+    let n = roomNeeded (limitsOf w) in
+    record { sound = s; room = seven n (length v) (ltb-false (records v) n (short-said w (records v) (limitsOf w) refl ∙ e)) }
 
 -- a call that asks for room first
 module _ (x : Call) (w v : List ℕ) (o : Outcome) (q : step x (marketOf w) ≡ refuse (short (records v) (marketOf w)) 3 o) where
@@ -103,12 +109,14 @@ module _ (w v q answers : List ℕ) (t : ℕ) where
 
     module _ (f : short (records v) (marketOf w) ≡ false) where
       pub tick-few : reportRoom q < limitsOf w .L → Steps x l (number 3) l
-      unfolding step marketOf
-      tick-few h = refuses 3 l (rw (e, f, lt-ltb (reportRoom q) (limitsOf w .L) h) refl)
+      unfolding step
+      tick-few h =
+          let k = ap (λ (x : Limits). x .L) (market-limits w) in refuses 3 l (rw (e, f, lt-ltb (reportRoom q) (marketOf w .limits .L) (omega arith)) refl)
 
       pub tick-ready : Sound w → limitsOf w .L ≤ reportRoom q → Roomy w v × ((3 * limitsOf w .L ≤ length q) × (length answers ≡ lineCount w))
       tick-ready s h = (roomy w v s f, (three (limitsOf w .L) (length q) h, good-count w answers e))
 
       pub tick-done : limitsOf w .L ≤ reportRoom q → (a : Said) (after : Lent) → Answers (tick answers t (marketOf w)) l a after → Steps x l a after
-      unfolding step marketOf
-      tick-done h a after r = rw (e, f, le-ltb (reportRoom q) (limitsOf w .L) h) r
+      unfolding step
+      tick-done h a after r =
+          let k = ap (λ (x : Limits). x .L) (market-limits w) in rw (e, f, le-ltb (reportRoom q) (marketOf w .limits .L) (omega arith)) r

@@ -22,9 +22,8 @@ fn short(s: &[u64], len: usize) -> bool
     ensures { λ r. ⌜ r ≡ Rules.short (len / 7) (marketOf (now (s .entry))) ⌝ }
 {
     let room = (len / 7) as u64;
-    let l = s[0];
-    let h = s[1];
-    room < l * (2 * h + 8) + 1
+    let limits = store::entries::limits(s);
+    room < limits.L * (2 * limits.H + 8) + 1
 }
 
 // A connection subscribes: its line becomes Waiting, empty, since t.
@@ -75,7 +74,7 @@ pub fn other(s: &mut [u64], out: &mut [u64], conn: u64, key: EventKey, message: 
     if short(s, out.len()) {
         return Step::Refused(3);
     }
-    market_prints::print(s, out, conn, key, message, t)
+    market_prints::other(s, out, conn, key, message, t)
 }
 
 // A connection is gone: its line goes, and if it was in line the others are promoted.
@@ -113,7 +112,7 @@ fn bad_answers(s: &[u64], answers: &[u64]) -> bool
     requires { ⌜ Sound (now s) ⌝ }
     ensures { λ r. ⌜ r ≡ Rules.badAnswers (now (answers .entry)) (marketOf (now (s .entry))) ⌝ }
 {
-    let lines = s[9] as usize;
+    let lines = store::conns::count(s);
     if answers.len() == lines {
         return above_one(answers);
     }
@@ -146,7 +145,7 @@ pub fn tick(s: &mut [u64], out: &mut [u64], reports: &mut [u64], answers: &[u64]
     if short(s, out.len()) {
         return Ticked::Refused(3);
     }
-    let lines = s[0] as usize;
+    let lines = store::entries::limits(s).L as usize;
     if reports.len() / 3 < lines {
         return Ticked::Refused(3);
     }

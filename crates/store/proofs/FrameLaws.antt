@@ -6,8 +6,6 @@ use native.Mathlib.Omega.{arith}
 use mathlib.Core.Logic.{⊎-elim}
 use lib.ListN.{length, take, drop, getD, set, length-drop, length-set}
 use lib.Seq.{ext-getD, getD-drop, getD-set-same, getD-set-other}
-use Rattle.rules.specs.declared.Stamp.{Stamp}
-use Rattle.rules.specs.declared.Stamp.the-variants as Stamp
 use Rattle.rules.specs.declared.Limits.{Limits}
 use Rattle.rules.specs.Quantities.{wordsNeeded}
 use Rattle.rules.specs.Lines.{Market, withLog, withPrints}
@@ -20,9 +18,11 @@ use Rattle.log.specs.declared.Head.{Head}
 use Rattle.log.specs.Log.{logOf}
 use Rattle.prints.specs.declared.Used.{Used}
 use Rattle.prints.specs.Area.{printsOf}
-use Rattle.lines.specs.Area.{stampIn, stampFlag, stampTime, connOf}
+use Rattle.lines.specs.Area.{connOf}
+use Rattle.lines.proofs.AreaLaws.{stamp-back}
 use Rattle.store.specs.Store.{limitsOf, headIn, headWords, headOf, lineCount, usedOf, tablesAt, linesAt, lineWidth, lineStart, logWords, tableWords, lineWordsAt, connIn, marketOf, Sized, KindsKnown, Sound}
 use Rattle.store.specs.Moves.{Moved}
+use Rattle.store.proofs.MarketLaws.{market-limits, market-by}
 
 -- ---- the words of a store after part of them came back: the log's head, the log's words, the tables' words, how many rows are in use
 
@@ -65,6 +65,20 @@ drop-ext : (a : ℕ) (v w : List ℕ) → length v ≡ length w → ((i : ℕ) �
 drop-ext a v w e h =
     ext-getD 0 (drop a v) (drop a w) (simp length-drop (omega arith)) (λ i l. getD-drop a v i 0 ∙ h (a + i) (omega arith) ∙ sym (getD-drop a w i 0))
 
+-- a store of the same limits and length is sized too
+pub sized-same : (v w : List ℕ) → limitsOf v ≡ limitsOf w → length v ≡ length w → Sized w → Sized v
+sized-same v w q n s =
+    let limits : (f : Limits → ℕ) → f (limitsOf v) ≡ f (limitsOf w) = λ f. ap f q in
+    record {
+      header = rw n (s .header);
+      long = rw (n, limits wordsNeeded) (s .long);
+      lines = rw (limits (λ l. l .L)) (s .lines);
+      held = rw (limits (λ l. l .H)) (s .held);
+      events = rw (limits (λ l. l .G)) (s .events);
+      keys = rw (limits (λ l. l .C)) (s .keys);
+      pairs = rw (limits (λ l. l .D)) (s .pairs);
+    }
+
 -- ---- what stays where the limits' words do
 
 module _ {a e : ℕ} {w v : List ℕ} (o : Only a e w v) (below : 5 ≤ a) where
@@ -75,18 +89,7 @@ module _ {a e : ℕ} {w v : List ℕ} (o : Only a e w v) (below : 5 ≤ a) where
   limits-stay = λ j. record { L = low 0 (omega arith) j; H = low 1 (omega arith) j; G = low 2 (omega arith) j; C = low 3 (omega arith) j; D = low 4 (omega arith) j }
 
   pub sized-stay : Sized w → Sized v
-  sized-stay z =
-      let s : length v ≡ length w = o .size in
-      let n : wordsNeeded (limitsOf v) ≡ wordsNeeded (limitsOf w) = ap wordsNeeded limits-stay in
-      record {
-        header = omega arith;
-        long = omega (arith, n);
-        lines = omega (arith, low 0 (omega arith));
-        held = omega (arith, low 1 (omega arith));
-        events = omega (arith, low 2 (omega arith));
-        keys = omega (arith, low 3 (omega arith));
-        pairs = omega (arith, low 4 (omega arith));
-      }
+  sized-stay z = sized-same v w limits-stay (o .size) z
 
   -- a part that the change leaves
   pub part-stays : (b f : ℕ) → f ≤ length w → ((i : ℕ) → b ≤ i → i < f → a ≤ i → i < e → ⊥) → part b f v ≡ part b f w
@@ -132,7 +135,7 @@ module _ {a e : ℕ} {w v : List ℕ} (o : Only a e w v) (below : 5 ≤ a) where
       unfolding marketOf
       moved-to x h t u =
           record {
-            market = λ j. record { limits = limits-stay j; log = logOf (limits-stay j .G) (x j) (h j); prints = printsOf (limits-stay j .C) (t j) (u j); lines = lines-stay j };
+            market = market-by v w limits-stay x h t u lines-stay;
             sized = sized-stay z;
             kinds = kinds-stay;
           }
@@ -147,17 +150,12 @@ moved-is {w} p a q = rw p (record { market = a .market ∙ q; sized = a .sized; 
 
 -- what a move leaves: the market's limits, and with a sound market a sound store
 pub moved-limits : {w v : List ℕ} {m : Market} → Moved w v m → limitsOf v ≡ m .limits
-unfolding marketOf
-moved-limits a = ap (λ (n : Market). n .limits) (a .market)
+moved-limits {w} {v} a = sym (market-limits v) ∙ ap (λ (n : Market). n .limits) (a .market)
 
 pub moved-sound : {w v : List ℕ} {m : Market} → Sound w → Moved w v m → Rules.Sound m → Sound v
 moved-sound s a r = record { sized = a .sized; kinds = a .kinds (s .kinds); market = subst Rules.Sound (sym (a .market)) r }
 
 -- ---- the head's words come back as those of h
-
-stamp-back : (s : Stamp) → stampIn (stampFlag s) (stampTime s) ≡ s
-stamp-back Stamp.Never = refl
-stamp-back (Stamp.At t) = refl
 
 head-back : (h : Head) → headIn (headWords h) ≡ h
 head-back h = λ j. record { base = h .base; count = h .count; last = stamp-back (h .last) j }

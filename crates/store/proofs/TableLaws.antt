@@ -11,6 +11,7 @@ use Rattle.rules.specs.Calls.{noRow}
 use Rattle.rules.specs.Sound.{TablesSound}
 use Rattle.rules.specs.declared.Limits.{Limits}
 use Rattle.rules.specs.Lines.{withPrints}
+use Rattle.words.specs.Words.{part, back}
 use Rattle.words.proofs.Parts.{part-length}
 use Rattle.prints.specs.declared.Used.{Used}
 use Rattle.prints.specs.Area.{printsOf, Fit, Fits, Free}
@@ -18,16 +19,20 @@ use Rattle.prints.proofs.Tables.{free, fits}
 use Rattle.store.specs.Store.{limitsOf, usedOf, tablesAt, linesAt, tableWords, marketOf, Sound}
 use Rattle.store.specs.Moves.{Moved, Tabled}
 use Rattle.store.proofs.FrameLaws.{putTables, putUsed, moved-on, moved-is, tables-limits, tables-put, tables-moved, used-moved}
+use Rattle.store.proofs.MarketLaws.{market-prints}
 use Rattle.store.proofs.EntryLaws.{counts}
 
 pub tabled : {w : List ℕ} → Sound w → Tabled w
 tabled s = record { sized = s .sized; counts = counts s; tables = s .market .prints .tables }
 
+-- their words lie from a on and below e
+pub tables-part : (w : List ℕ) {a e : ℕ} → a ≡ tablesAt (limitsOf w) → e ≡ linesAt (limitsOf w) → part a e w ≡ tableWords w
+tables-part w p q = λ j. part (p j) (q j) w
+
 module _ {w x : List ℕ} {u : Used} (t : Tabled w) (p : x ≡ tableWords w) (q : u ≡ usedOf w) where
   -- the tables' words and the counts of rows mean the market's prints
   pub prints-read : printsOf (limitsOf w .C) x u ≡ marketOf w .prints
-  unfolding marketOf
-  prints-read = λ j. printsOf (limitsOf w .C) (p j) (q j)
+  prints-read = (λ j. printsOf (limitsOf w .C) (p j) (q j)) ∙ sym (market-prints w)
 
   pub prints-say : {A : Type 0} (f : Prints → A) {r : A} → r ≡ f (printsOf (limitsOf w .C) x u) → r ≡ f (marketOf w .prints)
   prints-say f e = e ∙ ap f prints-read
@@ -71,25 +76,26 @@ module _ {w x : List ℕ} {u : Used} (t : Tabled w) (p : x ≡ tableWords w) (q 
 
 -- ---- moves
 
-module _ {w : List ℕ} {old : Used} (ys : List ℕ) (f : Prints → Prints) (t : Tabled w) (q : old ≡ usedOf w) (k : length ys ≡ length (tableWords w)) where
+module _ {w : List ℕ} {a e : ℕ} {old : Used} (p : a ≡ tablesAt (limitsOf w)) (q : e ≡ linesAt (limitsOf w)) (o : old ≡ usedOf w)
+    (ys : List ℕ) (f : Prints → Prints) (t : Tabled w) (k : length ys ≡ length (part a e w)) where
   kept : length ys ≡ 4 * limitsOf w .C + 4 * limitsOf w .D
-  kept = k ∙ tables-fit t refl q .size
+  kept = k ∙ tables-fit t (tables-part w p q) o .size
 
   -- the tables' words are new
-  pub rows-done : printsOf (limitsOf w .C) ys old ≡ f (printsOf (limitsOf w .C) (tableWords w) old)
-      → Moved w (putTables ys w) (withPrints (f (marketOf w .prints)) (marketOf w))
-  rows-done e =
-      let read : printsOf (limitsOf w .C) ys (usedOf w) ≡ f (marketOf w .prints) = ap (printsOf (limitsOf w .C) ys) (sym q) ∙ e ∙ ap f (prints-read t refl q) in
-      moved-is refl (tables-moved w ys (t .sized) kept) (λ j. withPrints (read j) (marketOf w))
+  pub rows-done : printsOf (limitsOf w .C) ys old ≡ f (printsOf (limitsOf w .C) (part a e w) old)
+      → Moved w (back a e ys w) (withPrints (f (marketOf w .prints)) (marketOf w))
+  rows-done r =
+      let read : printsOf (limitsOf w .C) ys (usedOf w) ≡ f (marketOf w .prints) =
+      ap (printsOf (limitsOf w .C) ys) (sym o) ∙ r ∙ ap f (prints-read t (tables-part w p q) o) in
+      moved-is (λ j. back (p j) (q j) ys w) (tables-moved w ys (t .sized) kept) (λ j. withPrints (read j) (marketOf w))
 
   -- and so is how many rows are in use
-  pub tables-done : {v : List ℕ} (new : Used) → printsOf (limitsOf w .C) ys new ≡ f (printsOf (limitsOf w .C) (tableWords w) old)
-      → v ≡ putUsed new (putTables ys w)
+  pub tables-done : {v : List ℕ} (new : Used) → printsOf (limitsOf w .C) ys new ≡ f (printsOf (limitsOf w .C) (part a e w) old)
+      → v ≡ putUsed new (back a e ys w)
       → Moved w v (withPrints (f (marketOf w .prints)) (marketOf w))
-  unfolding marketOf
-  tables-done new e b =
+  tables-done new r b =
       let one = tables-moved w ys (t .sized) kept in
       let two = used-moved (putTables ys w) new (one .sized) in
       let read : printsOf (limitsOf (putTables ys w) .C) (tableWords (putTables ys w)) new ≡ f (marketOf w .prints) =
-      (λ j. printsOf (tables-limits w ys (t .sized) kept j .C) (tables-put w ys (t .sized) kept j) new) ∙ e ∙ ap f (prints-read t refl q) in
-      moved-is b (moved-on one two) (λ j. withPrints (read j) (one .market j))
+      (λ j. printsOf (tables-limits w ys (t .sized) kept j .C) (tables-put w ys (t .sized) kept j) new) ∙ r ∙ ap f (prints-read t (tables-part w p q) o) in
+      moved-is (b ∙ (λ j. putUsed new (back (p j) (q j) ys w))) (moved-on one two) (λ j. withPrints (read j) (one .market j))

@@ -1,3 +1,4 @@
 pub mod Store
 pub mod Moves
 pub mod ConnMoves
+pub mod Areas

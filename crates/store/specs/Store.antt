@@ -1,5 +1,4 @@
 -- The reading of a store: the market that its words mean, and when it is sound. docs/LAYOUT.md has the words in a table.
-use mathlib.Core.Path.{_≡_}
 use mathlib.Core.List.{List, [], _∷_}
 use Prim.Native.Nat.{ℕ, _+_, _*_, _≤_, _<_}
 use lib.ListN.{length, getD}
@@ -53,6 +52,10 @@ lineStart l i = linesAt l + i * lineWidth l
 
 abbrev pub logWords : List ℕ → List ℕ
 logWords w = part 64 (tablesAt (limitsOf w)) w
+
+-- of which the first are the keys'
+abbrev pub keyWords : List ℕ → List ℕ
+keyWords w = part 64 (64 + 2 * limitsOf w .G) w
 
 abbrev pub tableWords : List ℕ → List ℕ
 tableWords w = part (tablesAt (limitsOf w)) (linesAt (limitsOf w)) w

@@ -5,29 +5,34 @@ use rules::EventKey;
 use rules::Item;
 ghost use mathlib.Core.Path.{_≡_};
 ghost use mathlib.Core.List.{[], _∷_, _++_};
-ghost use Prim.Native.Nat.{_+_, _≤_, _<_};
+ghost use Prim.Native.Nat.{_≤_, _<_};
 ghost use lib.ListN.{length, getD};
 ghost use Rattle.rules.specs.Quantities.{same, maxNumber};
 ghost use Rattle.rules.specs.Lists.{any};
 ghost use Rattle.rules.specs.Lines as Rules;
-ghost use Rattle.rules.specs.Lines.{connAt, setLine, setConn, someone, someDue, itemCount};
+ghost use Rattle.rules.specs.Lines.{connAt, itemsOf, setLine, setConn, someone, someDue, itemCount};
+ghost use Rattle.rules.specs.Entering.{pendings as pendingLines};
+ghost use Rattle.place.specs.Items.{itemIn};
 ghost use Rattle.lines.specs.Line.{lineOf, holding};
 ghost use Rattle.lines.specs.Area.{headLine, noPrint};
-ghost use Rattle.store.specs.Store.{limitsOf, lineStart, lineWidth, lineWordsAt, marketOf};
+ghost use Rattle.store.specs.Store.{limitsOf, lineCount, lineWordsAt, marketOf};
 ghost use Rattle.store.specs.ConnMoves.{itemsAt, Lined, LineAt, LineFits, NotFailed, ItemRoom, PrintRoom};
 ghost use Rattle.store.specs.Moves.{Moved};
 
-// Where the i-th line's words start.
-fn line_start(s: &[u64], i: usize) -> usize
-    requires { ⌜ LineAt (now s) i ⌝ }
-    ensures { λ r. ⌜ (r ≡ lineStart (limitsOf (now (s .entry))) i) × (r + lineWidth (limitsOf (now (s .entry))) ≤ length (now (s .entry))) ⌝ }
+// How many lines there are.
+pub fn count(s: &[u64]) -> usize
+    requires { ⌜ 64 ≤ length (now s) ⌝ }
+    ensures { λ r. ⌜ r ≡ lineCount (now (s .entry)) ⌝ }
 {
-    let h = s[1] as usize;
-    let g = s[2] as usize;
-    let c = s[3] as usize;
-    let d = s[4] as usize;
-    let width = 7 * h + 64;
-    64 + 3 * g + (4 * c + 4 * d) + i * width
+    s[9] as usize
+}
+
+// The held limit.
+pub fn held_limit(s: &[u64]) -> usize
+    requires { ⌜ 64 ≤ length (now s) ⌝ }
+    ensures { λ r. ⌜ r ≡ limitsOf (now (s .entry)) .H ⌝ }
+{
+    s[1] as usize
 }
 
 // The i-th line's words.
@@ -35,9 +40,8 @@ pub fn line_words(s: &[u64], i: usize) -> &[u64]
     requires { ⌜ LineAt (now s) i ⌝ }
     ensures { λ r. ⌜ now r ≡ lineWordsAt (now (s .entry)) i ⌝ }
 {
-    let h = s[1] as usize;
-    let a = line_start(s, i);
-    let e = a + (7 * h + 64);
+    let a = crate::areas::line_start(s, i);
+    let e = crate::areas::line_end(s, i);
     &s[a..e]
 }
 
@@ -46,8 +50,7 @@ pub fn conn_at(s: &[u64], i: usize) -> u64
     requires { ⌜ LineAt (now s) i ⌝ }
     ensures { λ r. ⌜ r ≡ (connAt i (marketOf (now (s .entry)))) .conn ⌝ }
 {
-    let area = line_words(s, i);
-    area[0]
+    lines::area::conn(line_words(s, i))
 }
 
 // The i-th line, by value.
@@ -55,8 +58,40 @@ pub fn line_at(s: &[u64], i: usize) -> Line
     requires { ⌜ LineAt (now s) i ⌝ }
     ensures { λ r. ⌜ r ≡ headLine (lineWordsAt (now (s .entry)) i) ⌝ }
 {
-    let area = line_words(s, i);
-    lines::area::line(area)
+    lines::area::line(line_words(s, i))
+}
+
+// The words of the i-th line's items.
+pub fn items(s: &[u64], i: usize) -> &[u64]
+    requires { ⌜ LineAt (now s) i ⌝ }
+    ensures { λ r. ⌜ now r ≡ itemsAt (now (s .entry)) i ⌝ }
+{
+    let h = s[1] as usize;
+    lines::area::items(line_words(s, i), h)
+}
+
+// How many items the i-th line holds.
+pub fn held(s: &[u64], i: usize) -> usize
+    requires { ⌜ LineAt (now s) i ⌝ }
+    ensures { λ r. ⌜ r ≡ length (itemsOf ((connAt i (marketOf (now (s .entry)))) .line)) ⌝ }
+{
+    line_at(s, i).held()
+}
+
+// The i-th line's j-th item.
+pub fn item_at(s: &[u64], i: usize, j: usize) -> Item
+    requires { ⌜ (LineFits (now s) i) × (j < length (itemsOf ((connAt i (marketOf (now s))) .line))) ⌝ }
+    ensures { λ r. ⌜ r ≡ itemIn (itemsAt (now (s .entry)) i) j ⌝ }
+{
+    place::item_at(items(s, i), j)
+}
+
+// How many prints the i-th line holds.
+pub fn prints_held(s: &[u64], i: usize) -> usize
+    requires { ⌜ LineAt (now s) i ⌝ }
+    ensures { λ r. ⌜ r ≡ length ((connAt i (marketOf (now (s .entry)))) .held) ⌝ }
+{
+    lines::area::prints_held(line_words(s, i))
 }
 
 // The place of a connection's line; the count of lines if it has none.
@@ -80,9 +115,8 @@ pub fn set_line(s: &mut [u64], i: usize, line: Line)
     requires { ⌜ LineAt (now s) i ⌝ }
     ensures { λ r. ⌜ Moved (now (s .entry)) (now (s .exit)) (setLine i (lineOf line (itemsAt (now (s .entry)) i)) (marketOf (now (s .entry)))) ⌝ }
 {
-    let h = s[1] as usize;
-    let a = line_start(s, i);
-    let e = a + (7 * h + 64);
+    let a = crate::areas::line_start(s, i);
+    let e = crate::areas::line_end(s, i);
     lines::area::set_line(&mut s[a..e], line);
 }
 
@@ -92,8 +126,8 @@ pub fn hold_item(s: &mut [u64], i: usize, item: Item)
     ensures { λ r. ⌜ Moved (now (s .entry)) (now (s .exit)) (setLine i (holding item ((connAt i (marketOf (now (s .entry)))) .line)) (marketOf (now (s .entry)))) ⌝ }
 {
     let h = s[1] as usize;
-    let a = line_start(s, i);
-    let e = a + (7 * h + 64);
+    let a = crate::areas::line_start(s, i);
+    let e = crate::areas::line_end(s, i);
     lines::area::hold_item(&mut s[a..e], h, item);
 }
 
@@ -123,8 +157,8 @@ pub fn hold_print(s: &mut [u64], i: usize, key: EventKey, message: u64)
     ensures { λ r. ⌜ Moved (now (s .entry)) (now (s .exit)) (setConn i ((connAt i (marketOf (now (s .entry)))) .line) ((connAt i (marketOf (now (s .entry)))) .held ++ ((key, message) ∷ [])) (marketOf (now (s .entry)))) ⌝ }
 {
     let h = s[1] as usize;
-    let a = line_start(s, i);
-    let e = a + (7 * h + 64);
+    let a = crate::areas::line_start(s, i);
+    let e = crate::areas::line_end(s, i);
     lines::area::hold_print(&mut s[a..e], h, key, message);
 }
 
@@ -134,13 +168,13 @@ pub fn drop_prints(s: &mut [u64], i: usize)
     ensures { λ r. ⌜ Moved (now (s .entry)) (now (s .exit)) (setConn i ((connAt i (marketOf (now (s .entry)))) .line) [] (marketOf (now (s .entry)))) ⌝ }
 {
     let h = s[1] as usize;
-    let a = line_start(s, i);
-    let e = a + (7 * h + 64);
+    let a = crate::areas::line_start(s, i);
+    let e = crate::areas::line_end(s, i);
     lines::area::drop_prints(&mut s[a..e], h);
 }
 
 // Whether anyone is in line.
-pub fn some_in_line(s: &[u64]) -> bool
+pub fn any_in_line(s: &[u64]) -> bool
     requires { ⌜ Lined (now s) ⌝ }
     ensures { λ r. ⌜ r ≡ someone (marketOf (now (s .entry)) .lines) ⌝ }
 {
@@ -169,6 +203,23 @@ pub fn some_due(s: &[u64]) -> bool
         i += 1;
     }
     false
+}
+
+// How many lines are pending.
+pub fn pendings(s: &[u64]) -> usize
+    requires { ⌜ Lined (now s) ⌝ }
+    ensures { λ r. ⌜ r ≡ pendingLines (marketOf (now (s .entry)) .lines) ⌝ }
+{
+    let n = s[9] as usize;
+    let mut pending = 0;
+    let mut i = 0;
+    while i < n {
+        if line_at(s, i).pending() {
+            pending += 1;
+        }
+        i += 1;
+    }
+    pending
 }
 
 // How many items all lines hold.

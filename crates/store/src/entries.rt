@@ -6,15 +6,16 @@ use rules::Stamp;
 ghost use mathlib.Core.Path.{_≡_};
 ghost use Prim.Native.Nat.{_+_, _≤_, _<_, _^_};
 ghost use lib.ListN.{length};
+ghost use Rattle.rules.specs.Log as Rules;
 ghost use Rattle.rules.specs.Log.{push, stamp, clear, prune};
 ghost use Rattle.rules.specs.Lines.{withLog};
 ghost use Rattle.words.specs.Words.{back};
-ghost use Rattle.store.specs.Store.{limitsOf, headOf, headWords, marketOf, Sized};
+ghost use Rattle.store.specs.Store.{limitsOf, headOf, headWords, keyWords, marketOf, Sized};
 ghost use Rattle.store.specs.Moves.{Moved, Counts};
 
 // The market's limits.
 pub fn limits(s: &[u64]) -> Limits
-    requires { ⌜ Sized (now s) ⌝ }
+    requires { ⌜ 64 ≤ length (now s) ⌝ }
     ensures { λ r. ⌜ r ≡ limitsOf (now (s .entry)) ⌝ }
 {
     Limits {
@@ -28,7 +29,7 @@ pub fn limits(s: &[u64]) -> Limits
 
 // The log's head.
 pub fn head(s: &[u64]) -> Head
-    requires { ⌜ Sized (now s) ⌝ }
+    requires { ⌜ 64 ≤ length (now s) ⌝ }
     ensures { λ r. ⌜ r ≡ headOf (now (s .entry)) ⌝ }
 {
     let base = s[5];
@@ -47,6 +48,40 @@ pub fn head(s: &[u64]) -> Head
         count,
         last: Stamp::At(t),
     }
+}
+
+// The number of the log's first entry.
+pub fn base(s: &[u64]) -> u64
+    requires { ⌜ 64 ≤ length (now s) ⌝ }
+    ensures { λ r. ⌜ r ≡ headOf (now (s .entry)) .base ⌝ }
+{
+    s[5]
+}
+
+// How many entries the log has.
+pub fn count(s: &[u64]) -> usize
+    requires { ⌜ 64 ≤ length (now s) ⌝ }
+    ensures { λ r. ⌜ r ≡ headOf (now (s .entry)) .count ⌝ }
+{
+    s[6] as usize
+}
+
+// The number after the log's last.
+pub fn end(s: &[u64]) -> u64
+    requires { ⌜ (64 ≤ length (now s)) × (headOf (now s) .base + headOf (now s) .count < 2 ^ 64) ⌝ }
+    ensures { λ r. ⌜ r ≡ Rules.end (marketOf (now (s .entry)) .log) ⌝ }
+{
+    s[5] + s[6]
+}
+
+// The words of the log's keys.
+pub fn keys(s: &[u64]) -> &[u64]
+    requires { ⌜ Sized (now s) ⌝ }
+    ensures { λ r. ⌜ now r ≡ keyWords (now (s .entry)) ⌝ }
+{
+    let g = s[2] as usize;
+    let e = 64 + 2 * g;
+    &s[64..e]
 }
 
 // Writes the log's head.
@@ -70,7 +105,7 @@ pub fn push(s: &mut [u64], key: EventKey, t: u64)
     ensures { λ _. ⌜ Moved (now (s .entry)) (now (s .exit)) (withLog (push key t (marketOf (now (s .entry)) .log)) (marketOf (now (s .entry)))) ⌝ }
 {
     let g = s[2] as usize;
-    let e = 64 + 3 * g;
+    let e = crate::areas::tables_start(s);
     let old = head(s);
     let new = log::push(&mut s[64..e], g, old, key, t);
     put_head(s, new);
@@ -86,7 +121,7 @@ pub fn stamp(s: &mut [u64], t: u64)
 }
 
 // Empties the log; the numbers go on.
-pub fn clear(s: &mut [u64])
+pub fn clear_log(s: &mut [u64])
     requires { ⌜ Sized (now s) ⌝ }
     requires { ⌜ headOf (now s) .base + headOf (now s) .count < 2 ^ 64 ⌝ }
     ensures { λ _. ⌜ Moved (now (s .entry)) (now (s .exit)) (withLog (clear (marketOf (now (s .entry)) .log)) (marketOf (now (s .entry)))) ⌝ }
@@ -102,7 +137,7 @@ pub fn prune(s: &mut [u64], t: u64)
     ensures { λ _. ⌜ Moved (now (s .entry)) (now (s .exit)) (withLog (prune t (marketOf (now (s .entry)) .log)) (marketOf (now (s .entry)))) ⌝ }
 {
     let g = s[2] as usize;
-    let e = 64 + 3 * g;
+    let e = crate::areas::tables_start(s);
     let old = head(s);
     let new = log::prune(&mut s[64..e], g, old, t);
     put_head(s, new);

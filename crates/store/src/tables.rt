@@ -37,11 +37,8 @@ pub fn area(s: &[u64]) -> &[u64]
     requires { ⌜ Sized (now s) ⌝ }
     ensures { λ r. ⌜ now r ≡ tableWords (now (s .entry)) ⌝ }
 {
-    let g = s[2] as usize;
-    let c = s[3] as usize;
-    let d = s[4] as usize;
-    let a = 64 + 3 * g;
-    let e = a + (4 * c + 4 * d);
+    let a = crate::areas::tables_start(s);
+    let e = crate::areas::lines_start(s);
     &s[a..e]
 }
 
@@ -80,11 +77,9 @@ pub fn deliver(s: &mut [u64], key: EventKey, conn: u64, t: u64)
     requires { ⌜ deliveredIn key conn (marketOf (now s) .prints .countRows) < maxCount ⌝ }
     ensures { λ _. ⌜ Moved (now (s .entry)) (now (s .exit)) (withPrints (counted key conn t (marketOf (now (s .entry)) .prints)) (marketOf (now (s .entry)))) ⌝ }
 {
-    let g = s[2] as usize;
     let c = s[3] as usize;
-    let d = s[4] as usize;
-    let a = 64 + 3 * g;
-    let e = a + (4 * c + 4 * d);
+    let a = crate::areas::tables_start(s);
+    let e = crate::areas::lines_start(s);
     let old = used(s);
     let new = prints::deliver(&mut s[a..e], c, old, key, conn, t);
     put_used(s, new);
@@ -95,11 +90,9 @@ pub fn apply(s: &mut [u64], key: EventKey, n: u64)
     requires { ⌜ Tabled (now s) ⌝ }
     ensures { λ _. ⌜ Moved (now (s .entry)) (now (s .exit)) (withPrints (applyPrint key n (marketOf (now (s .entry)) .prints)) (marketOf (now (s .entry)))) ⌝ }
 {
-    let g = s[2] as usize;
     let c = s[3] as usize;
-    let d = s[4] as usize;
-    let a = 64 + 3 * g;
-    let e = a + (4 * c + 4 * d);
+    let a = crate::areas::tables_start(s);
+    let e = crate::areas::lines_start(s);
     let old = used(s);
     prints::apply(&mut s[a..e], c, old, key, n);
 }
@@ -109,11 +102,9 @@ pub fn expire(s: &mut [u64], t: u64)
     requires { ⌜ Tabled (now s) ⌝ }
     ensures { λ _. ⌜ Moved (now (s .entry)) (now (s .exit)) (withPrints (expirePrints t (marketOf (now (s .entry)) .prints)) (marketOf (now (s .entry)))) ⌝ }
 {
-    let g = s[2] as usize;
     let c = s[3] as usize;
-    let d = s[4] as usize;
-    let a = 64 + 3 * g;
-    let e = a + (4 * c + 4 * d);
+    let a = crate::areas::tables_start(s);
+    let e = crate::areas::lines_start(s);
     let old = used(s);
     let new = prints::expire(&mut s[a..e], c, old, t);
     put_used(s, new);

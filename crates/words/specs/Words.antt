@@ -14,6 +14,10 @@ part a e w = take (e - a) (drop a w)
 abbrev pub back : ℕ → ℕ → List ℕ → List ℕ → List ℕ
 back a e ys w = take a w ++ (ys ++ drop (e - a) (drop a w))
 
+-- xs written over the front of a list; places past it stay
+abbrev pub over : List ℕ → List ℕ → List ℕ
+over xs v = xs ++ drop (length xs) v
+
 -- f 0, f 1, .., f (n - 1)
 abbrev pub tab : {A : Type 0} → ℕ → (ℕ → A) → List A
 tab zero f = []

@@ -10,10 +10,10 @@ enum-known-a-2 : tie.Need-enum-known-a-2
 enum-known-a-2 c = search needs
 
 returns : tie.Need-returns
-returns c = rw (c .before .a .given .1) refl
+returns c = rw (c .before .a .given .1) (record { words = refl; back = refl })
 
 returns-2 : tie.Need-returns-2
-returns-2 c = rw (c .before .a2 .given .1) refl
+returns-2 c = rw (c .before .a2 .given .1) (record { words = refl; back = refl })
 
 pub of-batched-spec : {M : Type 1} → statement M
 of-batched-spec = tie.close (tie.spec enum-known-a enum-known-a-2 returns returns-2)

@@ -9,30 +9,43 @@ use Rattle.batch.proofs.tick.Statement.{statement}
 use Rattle.batch.proofs.tick.Tie as tie
 
 digits-requires : tie.Need-digits-requires
-digits-requires c κs = let s = c .before .before .before .before .before .before .before .pre .0 in omega (arith, (lined-sound _ s) .count, s .sized .lines)
+digits-requires c κs =
+    let n = c .before .before in
+    let s = n .before .before .before .before .before .before .pre .0 in
+    omega (arith, n .count .ensures, lined-sound _ s .count, s .sized .lines)
 
 array-share-prefix-views : tie.Need-array-share-prefix-views
-array-share-prefix-views c = let s = c .before .before .before .before .before .before .before .before .before .before .before .pre .0 in omega (arith, (lined-sound _ s) .count, s .sized .lines)
+array-share-prefix-views c =
+    let n = c .before .before .before .before .before .before in
+    let s = n .before .before .before .before .before .before .pre .0 in
+    omega (arith, n .count .ensures, lined-sound _ s .count, s .sized .lines)
 
 slice-aggregate-tick : tie.Need-slice-aggregate-tick
-slice-aggregate-tick c = let s = c .before .before .before .before .before .before .before .before .before .before .before .before .pre .0 in let n = c .before .before .before .before .digits .ensures .0 in sym (length-take-le _ (c .before .before .before .before .digits .result) (omega (arith, (lined-sound _ s) .count, s .sized .lines)))
+slice-aggregate-tick c =
+    let d = c .before .before .before .before .digits in
+    let n = c .before .before .before .before .before .before .before in
+    let s = n .before .before .before .before .before .before .pre .0 in
+    sym (length-take-le _ (d .result) (omega (arith, d .ensures .0, n .count .ensures, lined-sound _ s .count, s .sized .lines)))
 
 returns : tie.Need-returns
 returns c =
-    let a = c .before .before .before .before .before .before .before .before .before .before .before .before .before .before .before .before .before .before .before .args in
-    ticks (a .w .now) (lentAll (a .s .now) (a .out .now) (a .reports .now)) _ _ _ (c .before .before .before .before .before .before .before .before .before .before .before .before .before .before .before .before .before .before .before .pre .1 .1) (c .before .before .before .before .before .before .before .before .before .before .before .digits .ensures .1) (c .before .before .before .before .before .before .tick .ensures)
+    let d = c .before .before .before .before .before .before .before .before .before .before .before in
+    let n = d .before .before .before in
+    let a = n .before .before .before .before .before .before in
+    ticks (a .args .w .now) (lentAll (a .args .s .now) (a .args .out .now) (a .args .reports .now))
+    _ _ _ _ (n .count .ensures) (a .pre .1 .1) (d .digits .ensures .1) (c .before .before .before .before .before .before .tick .ensures)
 
 pub tick-spec : {M : Type 1} → statement M
 tick-spec =
     tie.close
     (tie.spec
-    (λ c. let z = c .before .before .before .before .before .pre .0 .sized .header in omega arith)
+    (λ c κs. c .before .before .before .before .before .pre .0 .sized .header)
     (λ c. search needs)
     (λ c. search needs)
     digits-requires
     array-share-prefix-views
     slice-aggregate-tick
-    (λ c κs. c .before .before .before .before .before .before .before .before .before .before .before .before .pre .0)
+    (λ c κs. c .before .before .before .before .before .before .before .before .before .before .before .before .before .pre .0)
     (λ c. search needs)
     (λ c. search needs)
     (λ c. search needs)

@@ -9,7 +9,7 @@ of-asked-requires : tie.Need-of-asked-requires
 of-asked-requires c κs = search needs
 
 returns : tie.Need-returns
-returns c = rw (← c .of-asked .ensures) (c .before .servable .ensures)
+returns c = record { answer = _; tells = c .of-asked .ensures; holds = c .before .servable .ensures }
 
 pub merge-servable-spec : {M : Type 1} → statement M
 merge-servable-spec = tie.close (tie.spec servable-requires of-asked-requires returns)

@@ -18,7 +18,7 @@ same-length-3 : tie.Need-same-length-3
 same-length-3 c = search needs
 
 returns : tie.Need-returns
-returns c = rw (← c .of-ticked .ensures .back) (c .before .before .before .before .before .before .before .tick .ensures)
+returns c = record { answer = _; tells = c .of-ticked .ensures; holds = c .before .before .before .before .before .before .before .tick .ensures }
 
 pub merge-tick-spec : {M : Type 1} → statement M
 merge-tick-spec =

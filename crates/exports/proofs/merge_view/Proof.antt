@@ -12,7 +12,7 @@ same-length : tie.Need-same-length
 same-length c = search needs
 
 returns : tie.Need-returns
-returns c = rw (← c .of-viewed .ensures) (c .before .before .before .view .ensures)
+returns c = record { answer = _; tells = c .of-viewed .ensures; holds = c .before .before .before .view .ensures }
 
 pub merge-view-spec : {M : Type 1} → statement M
 merge-view-spec = tie.close (tie.spec view-requires of-viewed-requires same-length returns)

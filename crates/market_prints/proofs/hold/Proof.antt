@@ -15,19 +15,19 @@ returns c =
     let s = a .before .before .before in
     held-already (s .pre) (s .args .key) (s .args .message) (sym (a .holds-print .ensures) ∙ c .if1 .taken)
 
-slice-read-h : tie.Need-slice-read-h
-slice-read-h c = let z = c .before .before .before .before .before .pre .0 .sized in omega arith
+held-limit-requires : tie.Need-held-limit-requires
+held-limit-requires c κs = c .before .before .before .before .before .pre .0 .sized .header
 
 prints-held-requires : tie.Need-prints-held-requires
-prints-held-requires c κs = let s = c .before .before .before .before .before .before in fits-sound (s .args .s .now) (s .pre .0) (s .args .i) (s .pre .1 .0) .at
+prints-held-requires c κs = let s = c .before .before .before .before .before .before .before in fits-sound (s .args .s .now) (s .pre .0) (s .args .i) (s .pre .1 .0) .at
 
 drop-prints-requires : tie.Need-drop-prints-requires
-drop-prints-requires c κs = let s = c .before .before .before .before .before .before .before .before .before in (fits-sound (s .args .s .now) (s .pre .0) (s .args .i) (s .pre .1 .0) .at, s .pre .1 .1)
+drop-prints-requires c κs = let s = c .before .before .before .before .before .before .before .before .before .before in (fits-sound (s .args .s .now) (s .pre .0) (s .args .i) (s .pre .1 .0) .at, s .pre .1 .1)
 
 set-line-requires : tie.Need-set-line-requires
 set-line-requires c κs =
     let d = c .before .before .before in
-    let s = d .before .before .before .before .before .before .before .before .before .before in
+    let s = d .before .before .before .before .before .before .before .before .before .before .before in
     dropped-at (s .pre .0) (s .pre .1 .0) (d .drop-prints .ensures)
 
 returns-2 : tie.Need-returns-2
@@ -35,24 +35,27 @@ returns-2 c =
     let l = c .before .before in
     let d = l .before .before .before .before in
     let t = d .before .before in
-    let e = t .before .before .before .before in
+    let h = t .before .before .before .held-limit .ensures in
+    let e = t .before .before .before .before .before in
     let s = e .before .before .before .before in
     line-fails (s .pre) (s .args .key) (s .args .message) (sym (e .before .holds-print .ensures) ∙ e .if1 .left) (t .before .prints-held .ensures) (omega (arith, t .if2 .taken)) (d .drop-prints .kept .0) (l .set-line .kept .0) (d .drop-prints .ensures) (l .set-line .ensures)
 
 hold-print-requires : tie.Need-hold-print-requires
 hold-print-requires c κs =
     let t = c .before in
-    let e = t .before .before .before .before in
+    let h = t .before .before .before .held-limit .ensures in
+    let e = t .before .before .before .before .before in
     let s = e .before .before .before .before in
     hold-room (s .pre) (s .args .key) (s .args .message) (sym (e .before .holds-print .ensures) ∙ e .if1 .left) (t .before .prints-held .ensures) (omega (arith, t .if2 .left))
 
 returns-3 : tie.Need-returns-3
 returns-3 c =
-    let h = c .before .before in
-    let t = h .before .before in
-    let e = t .before .before .before .before in
+    let k = c .before .before in
+    let t = k .before .before in
+    let h = t .before .before .before .held-limit .ensures in
+    let e = t .before .before .before .before .before in
     let s = e .before .before .before .before in
-    held-more (s .pre) (s .args .key) (s .args .message) (sym (e .before .holds-print .ensures) ∙ e .if1 .left) (t .before .prints-held .ensures) (omega (arith, t .if2 .left)) (h .hold-print .kept .0) (h .hold-print .ensures)
+    held-more (s .pre) (s .args .key) (s .args .message) (sym (e .before .holds-print .ensures) ∙ e .if1 .left) (t .before .prints-held .ensures) (omega (arith, t .if2 .left)) (k .hold-print .kept .0) (k .hold-print .ensures)
 
 pub hold-spec : {M : Type 1} → statement M
 hold-spec =
@@ -61,7 +64,7 @@ hold-spec =
     holds-print-requires
     (λ c. search needs)
     returns
-    slice-read-h
+    held-limit-requires
     prints-held-requires
     drop-prints-requires
     set-line-requires

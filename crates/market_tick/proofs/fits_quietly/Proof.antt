@@ -13,12 +13,12 @@ returns c = let s = c .before .before .before in fits-empty (s .args .s .now) (s
 returns-2 : tie.Need-returns-2
 returns-2 c =
     let s = c .before .before .before .before .before .before in
-    fits-at (s .args .s .now) (s .args .i) (c .before .before .before .before .events-held .ensures) _ _ _ (c .before .before .place-of .ensures) (c .enum-told .given .1)
+    fits-at (s .args .s .now) (s .args .i) (c .before .before .before .before .events-held .ensures) _ _ _ (c .before .before .alignment .ensures) (c .enum-told .given .1)
 
 returns-3 : tie.Need-returns-3
 returns-3 c =
     let s = c .before .before .before .before .before .before in
-    fits-nowhere (s .args .s .now) (s .args .i) (c .before .before .before .before .events-held .ensures) (c .before .before .before .if1 .left) _ (c .before .before .place-of .ensures) (c .enum-told2 .given .1)
+    fits-nowhere (s .args .s .now) (s .args .i) (c .before .before .before .before .events-held .ensures) (c .before .before .before .if1 .left) _ (c .before .before .alignment .ensures) (c .enum-told2 .given .1)
 
 pub fits-quietly-spec : {M : Type 1} → statement M
 fits-quietly-spec =

@@ -9,14 +9,14 @@ use Rattle.queries.proofs.view.Tie as tie
 is-sound-requires : tie.Need-is-sound-requires
 is-sound-requires c κs = search needs
 
-shared-slice-read-h : tie.Need-shared-slice-read-h
-shared-slice-read-h c = let s = says-yes (Sound _) (c .before .before .is-sound .ensures) (c .before .if1 .taken) in let z = s .sized .header in omega arith
+held-limit-requires : tie.Need-held-limit-requires
+held-limit-requires c κs = (says-yes (Sound _) (c .before .is-sound .ensures) (c .if1 .taken)) .sized .header
 
 add-if2 : tie.Need-add-if2
 add-if2 c = let s = says-yes (Sound _) (c .before .before .is-sound .ensures) (c .before .if1 .taken) in let z = s .sized .held in omega arith
 
 returns : tie.Need-returns
-returns c = view-short (c .before .before .before .before .before .before .args .conn) (c .before .before .before .before .before .before .args .s .now) (c .before .before .before .before .before .before .args .list .now) (says-yes (Sound _) (c .before .before .before .is-sound .ensures) (c .before .before .if1 .taken)) (c .if2 .taken)
+returns c = view-short (c .before .before .before .before .before .before .args .conn) (c .before .before .before .before .before .before .args .s .now) (c .before .before .before .before .before .before .args .list .now) (says-yes (Sound _) (c .before .before .before .is-sound .ensures) (c .before .before .if1 .taken)) (omega arith)
 
 view-requires : tie.Need-view-requires
 view-requires c κs = (says-yes (Sound _) (c .before .before .before .before .is-sound .ensures) (c .before .before .before .if1 .taken), omega arith)
@@ -35,7 +35,7 @@ view-spec =
     tie.close
     (tie.spec
     is-sound-requires
-    shared-slice-read-h
+    held-limit-requires
     add-if2
     returns
     view-requires

@@ -12,7 +12,13 @@ returns : tie.Need-returns
 returns c = let a = c .before .before .before .before .before .args in setup-short (a .l) (a .start) (a .s .now) (sym (c .before .before .before .in-range .ensures) ∙ c .before .before .if1 .taken) (let k = c .before .words-needed .ensures in omega arith)
 
 returns-2 : tie.Need-returns-2
-returns-2 c = let a = c .before .before .before .before .before .before .before .before .before .args in setup-done (a .l) (a .start) (a .s .now) (sym (c .before .before .before .before .before .before .before .in-range .ensures) ∙ c .before .before .before .before .before .before .if1 .taken) (omega arith) (let k = c .before .before .before .before .before .words-needed .ensures in omega arith) _ (c .before .before .put-header .ensures)
+returns-2 c =
+    let p = c .before .before .put-header in
+    let t = c .before .before .before .before .before in
+    let a = t .before .before .before .before .args in
+    let k = t .words-needed .ensures in
+    setup-done (a .l) (a .start) (a .s .now)
+    (sym (t .before .before .in-range .ensures) ∙ t .before .if1 .taken) (omega arith) (omega arith) _ (p .kept .0) (p .ensures)
 
 returns-3 : tie.Need-returns-3
 returns-3 c = let a = c .before .before .before .args in setup-outside (a .l) (a .start) (a .s .now) (sym (c .before .in-range .ensures) ∙ c .if1 .left)

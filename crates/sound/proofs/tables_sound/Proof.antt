@@ -1,3 +1,5 @@
+use mathlib.Core.Path.{ap}
+use Rattle.rules.specs.declared.Limits.{Limits}
 use Rattle.sound.proofs.HeaderLaws.{tables-ready, tables-say}
 use borrow.Author.Needs.{needs}
 use Rattle.sound.proofs.tables_sound.Statement.{statement}
@@ -5,16 +7,19 @@ use Rattle.sound.proofs.tables_sound.Tie as tie
 
 tables-sound-requires : tie.Need-tables-sound-requires
 tables-sound-requires c κs =
-    let s = c .before .before .before .before in
-    tables-ready (s .args .s .now) _ _ (c .before .area .ensures) (c .used .ensures) (s .pre .0) (s .pre .1)
+    let l = c .before .before in
+    let s = l .before .before in
+    tables-ready (s .args .s .now) _ _ _ (ap (λ (x : Limits). x .C) (l .limits .ensures)) (c .before .area .ensures) (c .used .ensures) (s .pre .0) (s .pre .1)
 
 returns : tie.Need-returns
 returns c =
     let u = c .before in
-    let s = u .before .before .before .before in
-    tables-say (s .args .s .now) _ _ (u .before .area .ensures) (u .used .ensures) (c .tables-sound .result) (c .tables-sound .ensures)
+    let l = u .before .before in
+    tables-say (l .before .before .args .s .now) _ _ _ (ap (λ (x : Limits). x .C) (l .limits .ensures))
+    (u .before .area .ensures) (u .used .ensures)
+    (c .tables-sound .result) (c .tables-sound .ensures)
 
 pub tables-sound-spec : {M : Type 1} → statement M
 tables-sound-spec =
     tie.close
-    (tie.spec (λ c. search needs) (λ c κs. search needs) (λ c κs. search needs) tables-sound-requires returns)
+    (tie.spec (λ c κs. search needs) (λ c κs. search needs) (λ c κs. search needs) tables-sound-requires returns)

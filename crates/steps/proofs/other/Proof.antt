@@ -14,14 +14,14 @@ returns c =
     let a = c .before .before .before .before .before .args in
     steps-short (Print (a .conn) (a .key) (a .message) (a .t) (records (a .out .now))) (a .s .now) (a .out .now) (print (a .conn) (a .key) (a .message) (a .t) (marketOf (a .s .now))) refl (sym (c .before .short .ensures) ∙ c .if1 .taken)
 
-print-requires : tie.Need-print-requires
-print-requires c κs = roomy _ _ (c .before .before .before .before .before .before .before .pre) (sym (c .before .before .before .short .ensures) ∙ c .before .before .if1 .left)
+other-requires : tie.Need-other-requires
+other-requires c κs = roomy _ _ (c .before .before .before .before .before .before .before .pre) (sym (c .before .before .before .short .ensures) ∙ c .before .before .if1 .left)
 
 returns-2 : tie.Need-returns-2
 unfolding step
 returns-2 c =
     let a = c .before .before .before .before .before .before .before .before .before .before .before .before .args in
-    steps-roomy (Print (a .conn) (a .key) (a .message) (a .t) (records (a .out .now))) (a .s .now) (a .out .now) (print (a .conn) (a .key) (a .message) (a .t) (marketOf (a .s .now))) refl _ _ (sym (c .before .before .before .before .before .before .before .before .short .ensures) ∙ c .before .before .before .before .before .before .before .if1 .left) (c .before .before .before .before .print .ensures)
+    steps-roomy (Print (a .conn) (a .key) (a .message) (a .t) (records (a .out .now))) (a .s .now) (a .out .now) (print (a .conn) (a .key) (a .message) (a .t) (marketOf (a .s .now))) refl _ _ (sym (c .before .before .before .before .before .before .before .before .short .ensures) ∙ c .before .before .before .before .before .before .before .if1 .left) (c .before .before .before .before .other .ensures)
 
 pub other-spec : {M : Type 1} → statement M
 other-spec =
@@ -30,7 +30,7 @@ other-spec =
     (λ c κs. c .before .before .before .pre)
     (λ c. search needs)
     returns
-    print-requires
+    other-requires
     (λ c. search needs)
     (λ c. search needs)
     returns-2)

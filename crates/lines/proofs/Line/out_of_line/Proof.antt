@@ -1,5 +1,4 @@
-use mathlib.Core.Path.{refl}
-use Rattle.place.specs.Items.{itemsIn}
+use Rattle.place.proofs.Items.{items-none}
 use borrow.Author.Needs.{needs}
 use Rattle.lines.proofs.Line.out_of_line.Statement.{statement}
 use Rattle.lines.proofs.Line.out_of_line.Tie as tie
@@ -11,8 +10,7 @@ returns-2 : tie.Need-returns-2
 returns-2 c w = cc
 
 returns-3 : tie.Need-returns-3
-unfolding itemsIn
-returns-3 c w = rw (c .enum-told3 .given .1)
+returns-3 c w = rw (c .enum-told3 .given .1, items-none w)
 
 returns-4 : tie.Need-returns-4
 returns-4 c w = cc

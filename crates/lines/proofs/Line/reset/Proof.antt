@@ -1,20 +1,16 @@
-use mathlib.Core.Path.{refl}
-use Rattle.place.specs.Items.{itemsIn}
+use Rattle.place.proofs.Items.{items-none}
 use borrow.Author.Needs.{needs}
 use Rattle.lines.proofs.Line.reset.Statement.{statement}
 use Rattle.lines.proofs.Line.reset.Tie as tie
 
 returns : tie.Need-returns
-unfolding itemsIn
-returns c w = rw (c .enum-told .given .1)
+returns c w = rw (c .enum-told .given .1, items-none w)
 
 returns-2 : tie.Need-returns-2
-unfolding itemsIn
-returns-2 c w = rw (c .enum-told2 .given .1)
+returns-2 c w = rw (c .enum-told2 .given .1, items-none w)
 
 returns-3 : tie.Need-returns-3
-unfolding itemsIn
-returns-3 c w = rw (c .enum-told3 .given .1)
+returns-3 c w = rw (c .enum-told3 .given .1, items-none w)
 
 returns-4 : tie.Need-returns-4
 returns-4 c w = cc

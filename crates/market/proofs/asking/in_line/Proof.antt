@@ -9,14 +9,14 @@ use borrow.Author.Needs.{needs}
 use Rattle.market.proofs.asking.in_line.Statement.{statement}
 use Rattle.market.proofs.asking.in_line.Tie as tie
 
-shared-slice-read-lines : tie.Need-shared-slice-read-lines
-shared-slice-read-lines c = search needs
+count-requires : tie.Need-count-requires
+count-requires c κs = search needs
 
 find-requires : tie.Need-find-requires
 find-requires c κs = lined-sound _ (c .before .before .pre)
 
 returns : tie.Need-returns
-returns c = ap (λ (x : Connection). isInLine (x .line)) (sym (absent _ _ _ (c .before .find .ensures) (c .if1 .taken)))
+returns c = ap (λ (x : Connection). isInLine (x .line)) (sym (absent _ _ _ (c .before .find .ensures) (omega arith)))
 
 line-at-requires : tie.Need-line-at-requires
 line-at-requires c κs = line-at-sound _ (c .before .before .before .before .pre) _ (omega arith)
@@ -31,7 +31,7 @@ pub in-line-spec : {M : Type 1} → statement M
 in-line-spec =
     tie.close
     (tie.spec
-    shared-slice-read-lines
+    count-requires
     find-requires
     returns
     line-at-requires

@@ -8,14 +8,14 @@ use Rattle.market.proofs.asking.view.Statement.{statement}
 use Rattle.market.proofs.asking.view.Tie as tie
 use Rattle.market.proofs.asking.view.Reads as reads
 
-shared-slice-read-lines : tie.Need-shared-slice-read-lines
-shared-slice-read-lines c = search needs
+count-requires : tie.Need-count-requires
+count-requires c κs = search needs
 
 find-requires : tie.Need-find-requires
 find-requires c κs = lined-sound _ (c .before .before .before .pre .0)
 
 returns : tie.Need-returns
-returns c = view-absent _ _ _ _ (c .before .find .ensures) (c .if1 .taken)
+returns c = view-absent _ _ _ _ (c .before .find .ensures) (omega arith)
 
 line-at-requires : tie.Need-line-at-requires
 line-at-requires c κs = line-at-sound _ (c .before .before .before .before .before .pre .0) _ (omega arith)
@@ -45,7 +45,7 @@ pub view-spec : {M : Type 1} → statement M
 view-spec =
     tie.close
     (tie.spec
-    shared-slice-read-lines
+    count-requires
     find-requires
     returns
     line-at-requires

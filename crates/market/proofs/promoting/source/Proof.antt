@@ -16,11 +16,11 @@ Inv-loop s best₀ i₀ best i = (i ≤ i₀) × (sourceOf best ≡ source i (dr
 abbrev μ-loop : tie.MeasureT-loop
 μ-loop s best₀ i₀ best i = i
 
-shared-slice-read-i : tie.Need-shared-slice-read-i Inv-loop μ-loop
-shared-slice-read-i c = let z = c .before .before .pre .sized .header in omega arith
+count-requires : tie.Need-count-requires Inv-loop μ-loop
+count-requires c κs = c .before .pre .sized .header
 
 loop-holds : tie.Need-loop-holds Inv-loop μ-loop
-loop-holds c = (omega arith, source-end (c .before .before .args .s .now))
+loop-holds c = (omega arith, source-end (c .before .before .args .s .now) _ (c .count .ensures))
 
 sub-i : tie.Need-sub-i Inv-loop μ-loop
 sub-i c = omega arith
@@ -35,7 +35,7 @@ loop-less : tie.Need-loop-less Inv-loop μ-loop
 loop-less c = omega arith
 
 loop-again : tie.Need-loop-again Inv-loop μ-loop
-loop-again c = (let q = c .before .before .before .loop .inv .0 in omega arith, source-step _ (c .before .before .before .loop .i) (omega arith) (c .before .before .before .loop .inv .0) (c .before .claim-of .result) (c .before .before .before .loop .best) (c .better-of .result) (c .before .claim-of .ensures) (c .before .before .before .loop .inv .1) (c .better-of .ensures))
+loop-again c = (let q = c .before .before .before .loop .inv .0 in omega arith, source-step _ (c .before .before .before .loop .i) (omega arith) (let q = c .before .before .before .loop .inv .0 in omega arith) (c .before .claim-of .result) (c .before .before .before .loop .best) (c .better-of .result) (c .before .claim-of .ensures) (c .before .before .before .loop .inv .1) (c .better-of .ensures))
 
 returns : tie.Need-returns Inv-loop μ-loop
 returns c = let l = c .before .loop in let z : l .i ≡ 0 = omega arith in l .inv .1 ∙ ap (λ (j : ℕ). source j (drop j (marketOf (c .before .before .before .before .args .s .now) .lines))) z
@@ -46,7 +46,7 @@ source-spec =
     (tie.spec
     Inv-loop
     μ-loop
-    shared-slice-read-i
+    count-requires
     loop-holds
     sub-i
     claim-of-requires

@@ -7,14 +7,14 @@ drop-prints-requires : tie.Need-drop-prints-requires
 drop-prints-requires c κs =
     let q = c .before .before .before .before .before in
     let a = q .before .before .before .before .before in
-    drop-ready (a .args .i) (a .pre) (q .release .ensures)
+    drop-ready (a .args .i) (a .pre) (q .release-prints .ensures)
 
 set-line-requires : tie.Need-set-line-requires
 set-line-requires c κs =
     let p = c .before .before .before in
     let q = p .before .before .before .before .before .before in
     let a = q .before .before .before .before .before in
-    set-ready (a .args .i) (a .pre) (q .release .ensures) (p .drop-prints .ensures)
+    set-ready (a .args .i) (a .pre) (q .release-prints .ensures) (p .drop-prints .ensures)
 
 returns : tie.Need-returns
 returns c =
@@ -22,7 +22,7 @@ returns c =
     let p = o .before .before .before .before in
     let q = p .before .before .before .before .before .before in
     let a = q .before .before .before .before .before in
-    enter-done (a .args .i) (a .pre) (q .release .ensures) (p .drop-prints .ensures) _ _ _ (o .set-line .ensures)
+    enter-done (a .args .i) (a .pre) (q .release-prints .ensures) (p .drop-prints .ensures) (a .args .line) (o .set-line .ensures)
 
 pub enter-spec : {M : Type 1} → statement M
 enter-spec =

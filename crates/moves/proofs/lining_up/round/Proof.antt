@@ -11,27 +11,27 @@ Inv-loop s₀ out₀ n t lines m₀ i₀ s out m i = RoundTo t s₀ out₀ n s o
 abbrev μ-loop : tie.MeasureT-loop
 μ-loop s₀ out₀ n t lines m₀ i₀ s out m i = lines - i
 
-slice-read-lines : tie.Need-slice-read-lines Inv-loop μ-loop
-slice-read-lines c = let z = c .before .before .before .pre .sound .sized in omega arith
+count-requires : tie.Need-count-requires Inv-loop μ-loop
+count-requires c κs = c .before .before .before .pre .sound .sized .header
 
 loop-holds : tie.Need-loop-holds Inv-loop μ-loop
-loop-holds c = let s = c .before .before .before in round-start (s .args .t) (s .pre)
+loop-holds c = let s = c .before .before .before .before in round-start (s .args .t) (s .pre)
 
-try-line-up-requires : tie.Need-try-line-up-requires Inv-loop μ-loop
-try-line-up-requires c κs = let l = c .before .before .before .loop in (l .inv .ready, omega (arith, l .inv .lines))
+try-align-requires : tie.Need-try-align-requires Inv-loop μ-loop
+try-align-requires c κs = let l = c .before .before .before in (l .loop .inv .ready, omega (arith, l .before .count .ensures, l .loop .inv .lines))
 
 add-i : tie.Need-add-i Inv-loop μ-loop
 add-i c =
-    let s = c .before .before .before .before .before .before .before .before .before .before .before .before in
+    let s = c .before .before .before .before .before .before .before .before .before .before .before .before .before in
     let l = lined-sound (s .args .s .now) (s .pre .sound) in
-    omega arith
+    omega (arith, c .before .before .before .before .before .before .before .before .before .count .ensures)
 
 loop-again : tie.Need-loop-again Inv-loop μ-loop
 loop-again c =
-    let t = c .before .before .before .before .try-line-up in
+    let t = c .before .before .before .before .try-align in
     let l = c .before .before .before .before .before .before .before .before in
-    let s = l .before .before .before .before in
-    round-on (s .args .t) (s .pre) (l .loop .inv) (omega arith) (t .kept .0) (t .kept .1 .0) (t .ensures)
+    let s = l .before .before .before .before .before in
+    round-on (s .args .t) (s .pre) (l .loop .inv) (omega (arith, l .before .count .ensures)) (t .kept .0) (t .kept .1 .0) (t .ensures)
 
 same-length : tie.Need-same-length Inv-loop μ-loop
 same-length c = c .before .loop .inv .size
@@ -42,8 +42,8 @@ same-length-2 c = c .before .loop .inv .room
 returns : tie.Need-returns Inv-loop μ-loop
 returns c =
     let l = c .before in
-    let s = l .before .before .before .before in
-    round-done (s .args .t) (s .pre) (l .loop .inv) (omega arith)
+    let s = l .before .before .before .before .before in
+    round-done (s .args .t) (s .pre) (l .loop .inv) (omega (arith, l .before .count .ensures))
 
 pub round-spec : {M : Type 1} → statement M
 round-spec =
@@ -51,9 +51,9 @@ round-spec =
     (tie.spec
     Inv-loop
     μ-loop
-    slice-read-lines
+    count-requires
     loop-holds
-    try-line-up-requires
+    try-align-requires
     add-i
     (λ c. omega arith)
     loop-again

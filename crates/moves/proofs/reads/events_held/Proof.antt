@@ -2,7 +2,8 @@ use mathlib.Core.Path.{ap, _∙_}
 use lib.ListN.{length}
 use Rattle.rules.specs.Lines.{events}
 use Rattle.place.specs.Items.{itemsIn}
-use Rattle.moves.proofs.LiningReads.{items-said, items-words}
+use native.Mathlib.Omega.{arith}
+use Rattle.store.proofs.ConnLaws.{items-said, items-inside}
 use borrow.Author.Needs.{needs}
 use Rattle.moves.proofs.reads.events_held.Statement.{statement}
 use Rattle.moves.proofs.reads.events_held.Tie as tie
@@ -10,7 +11,7 @@ use Rattle.moves.proofs.reads.events_held.Tie as tie
 count-events-requires : tie.Need-count-events-requires
 count-events-requires c κs =
     let s = c .before .before .before in
-    rw (c .items .ensures) (items-words (s .args .s .now) (s .args .i) (s .pre) (c .before .held .result) (c .before .held .ensures))
+    rw (c .items .ensures) (omega (arith, items-inside _ _ (s .pre), c .before .held .ensures))
 
 returns : tie.Need-returns
 returns c =

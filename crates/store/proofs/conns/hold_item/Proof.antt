@@ -5,14 +5,16 @@ use Rattle.store.proofs.conns.hold_item.Tie as tie
 
 hold-item-requires : tie.Need-hold-item-requires
 hold-item-requires c κs =
-    hold-item-ready _ _ _ (c .before .line-start .ensures .0) _ (c .before .before .before .before .before .pre)
+    let a = c .before .before .before in
+    hold-item-ready _ _ _ _ (a .line-start .ensures .start) (c .before .line-end .ensures .end) _ (a .before .before .before .before .pre)
 
 returns : tie.Need-returns
 returns c =
-    let s = c .before .before .before .before .before .before .before .before in
-    let a = c .before .before .before .before .line-start in
+    let e = c .before .before .before .before in
+    let a = e .before .before in
+    let s = a .before .before .before .before in
     let f = c .before .before .hold-item in
-    hold-item-done _ _ _ (a .ensures .0) (s .pre .fits .at) _ (s .pre .unfailed) _ (f .kept .0) (f .ensures)
+    hold-item-done _ _ _ _ (a .line-start .ensures .start) (e .line-end .ensures .end) (s .pre .fits .at) _ (s .pre .unfailed) _ (f .kept .0) (f .ensures)
 
 pub hold-item-spec : {M : Type 1} → statement M
 hold-item-spec =
@@ -20,9 +22,7 @@ hold-item-spec =
     (tie.spec
     (λ c. search needs)
     (λ c κs. search needs)
-    (λ c. search needs)
-    (λ c. search needs)
-    (λ c. search needs)
+    (λ c κs. search needs)
     (λ c. search needs)
     (λ c. search needs)
     (λ c. search needs)

@@ -6,14 +6,17 @@ use Rattle.store.proofs.conns.hold_print.Tie as tie
 
 hold-print-requires : tie.Need-hold-print-requires
 hold-print-requires c κs =
-    hold-print-ready _ _ _ (c .before .line-start .ensures .0) (c .before .before .before .before .before .pre)
+    let a = c .before .before .before in
+    hold-print-ready _ _ _ _ (a .line-start .ensures .start) (c .before .line-end .ensures .end) (a .before .before .before .before .pre)
 
 returns : tie.Need-returns
 returns c =
-    let s = c .before .before .before .before .before .before .before .before in
-    let a = c .before .before .before .before .line-start in
+    let e = c .before .before .before .before in
+    let a = e .before .before in
+    let s = a .before .before .before .before in
     let f = c .before .before .hold-print in
-    prints-done _ _ _ (a .ensures .0) (s .pre .fits .at) (λ ps. ps ++ ((s .args .key, s .args .message) ∷ [])) (s .pre .unfailed) _ (f .kept .0) (f .ensures)
+    prints-done _ _ _ _ (a .line-start .ensures .start) (e .line-end .ensures .end) (s .pre .fits .at)
+    (λ ps. ps ++ ((s .args .key, s .args .message) ∷ [])) (s .pre .unfailed) _ (f .kept .0) (f .ensures)
 
 pub hold-print-spec : {M : Type 1} → statement M
 hold-print-spec =
@@ -21,9 +24,7 @@ hold-print-spec =
     (tie.spec
     (λ c. search needs)
     (λ c κs. search needs)
-    (λ c. search needs)
-    (λ c. search needs)
-    (λ c. search needs)
+    (λ c κs. search needs)
     (λ c. search needs)
     (λ c. search needs)
     (λ c. search needs)

@@ -7,23 +7,25 @@ use Rattle.store.proofs.entries.prune.Tie as tie
 prune-requires : tie.Need-prune-requires
 prune-requires c κs =
     let h = c .before in
-    let s = h .before .before .before .before in
-    prune-ready (s .pre .0) (h .head .ensures) (s .pre .1)
+    let e = h .before .before in
+    let s = e .before .before .before .before in
+    prune-ready (e .tables-start .ensures) (s .pre .0) (h .head .ensures) (s .pre .1)
 
 returns : tie.Need-returns
 returns c =
     let p = c .before .before .before .before .before .before in
     let h = p .before .before in
-    let s = h .before .before .before .before in
-    log-done (p .prune .last .0) (p .prune .result) (prune (s .args .t)) (s .pre .0) (h .head .ensures) (p .prune .kept .0) (p .prune .ensures .0) (c .before .before .put-head .ensures)
+    let e = h .before .before in
+    let s = e .before .before .before .before in
+    log-done (e .tables-start .ensures) (s .pre .0) (h .head .ensures)
+    (p .prune .last .0) (p .prune .result) (prune (s .args .t)) (p .prune .kept .0) (p .prune .ensures .0) (c .before .before .put-head .ensures)
 
 pub prune-spec : {M : Type 1} → statement M
 prune-spec =
     tie.close
     (tie.spec
     (λ c. search needs)
-    (λ c. search needs)
-    (λ c. search needs)
+    (λ c κs. search needs)
     (λ c κs. search needs)
     (λ c. search needs)
     (λ c. search needs)

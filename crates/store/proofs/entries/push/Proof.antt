@@ -7,23 +7,25 @@ use Rattle.store.proofs.entries.push.Tie as tie
 push-requires : tie.Need-push-requires
 push-requires c κs =
     let h = c .before in
-    let s = h .before .before .before .before in
-    push-ready (s .pre .0) (h .head .ensures) (s .pre .1)
+    let e = h .before .before in
+    let s = e .before .before .before .before in
+    push-ready (e .tables-start .ensures) (s .pre .0) (h .head .ensures) (s .pre .1)
 
 returns : tie.Need-returns
 returns c =
     let p = c .before .before .before .before .before .before in
     let h = p .before .before in
-    let s = h .before .before .before .before in
-    log-done (p .push .last .0) (p .push .result) (push (s .args .key) (s .args .t)) (s .pre .0) (h .head .ensures) (p .push .kept .0) (p .push .ensures .0) (c .before .before .put-head .ensures)
+    let e = h .before .before in
+    let s = e .before .before .before .before in
+    log-done (e .tables-start .ensures) (s .pre .0) (h .head .ensures)
+    (p .push .last .0) (p .push .result) (push (s .args .key) (s .args .t)) (p .push .kept .0) (p .push .ensures .0) (c .before .before .put-head .ensures)
 
 pub push-spec : {M : Type 1} → statement M
 push-spec =
     tie.close
     (tie.spec
     (λ c. search needs)
-    (λ c. search needs)
-    (λ c. search needs)
+    (λ c κs. search needs)
     (λ c κs. search needs)
     (λ c. search needs)
     (λ c. search needs)

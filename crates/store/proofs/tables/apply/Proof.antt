@@ -1,6 +1,5 @@
-use mathlib.Core.Path.{refl}
 use Rattle.rules.specs.Prints.{applyPrint}
-use Rattle.store.proofs.TableLaws.{tables-ready, rows-done}
+use Rattle.store.proofs.TableLaws.{tables-part, tables-ready, rows-done}
 use borrow.Author.Needs.{needs}
 use Rattle.store.proofs.tables.apply.Statement.{statement}
 use Rattle.store.proofs.tables.apply.Tie as tie
@@ -8,28 +7,28 @@ use Rattle.store.proofs.tables.apply.Tie as tie
 apply-requires : tie.Need-apply-requires
 apply-requires c κs =
     let u = c .before in
-    tables-ready (u .before .before .before .before .before .before .pre) refl (u .used .ensures)
+    let e = u .before .before in
+    let a = e .before .before in
+    let s = a .before .before .before .before in
+    tables-ready (s .pre) (tables-part _ (a .tables-start .ensures) (e .lines-start .ensures)) (u .used .ensures)
 
 returns : tie.Need-returns
 returns c =
     let p = c .before .before in
     let u = p .before .before in
-    let s = u .before .before .before .before .before .before in
-    rows-done (p .apply .last .0) (applyPrint (s .args .key) (s .args .n)) (s .pre) (u .used .ensures) (p .apply .kept .0) (p .apply .ensures)
+    let e = u .before .before in
+    let a = e .before .before in
+    let s = a .before .before .before .before in
+    rows-done (a .tables-start .ensures) (e .lines-start .ensures) (u .used .ensures) (p .apply .last .0)
+    (applyPrint (s .args .key) (s .args .n)) (s .pre) (p .apply .kept .0) (p .apply .ensures)
 
 pub apply-spec : {M : Type 1} → statement M
 apply-spec =
     tie.close
     (tie.spec
     (λ c. search needs)
-    (λ c. search needs)
-    (λ c. search needs)
-    (λ c. search needs)
-    (λ c. search needs)
-    (λ c. search needs)
-    (λ c. search needs)
-    (λ c. search needs)
-    (λ c. search needs)
+    (λ c κs. search needs)
+    (λ c κs. search needs)
     (λ c κs. search needs)
     (λ c. search needs)
     (λ c. search needs)
