@@ -1,6 +1,6 @@
-// The calls for a host that owns its store. They ask for a sound store and do not test it: a host may use them only on words that
-// setup made and that nobody but these functions has written since. Each leaves a sound store, so that promise keeps itself.
-// Slices, pointers and codes are as in crate exports.
+// No public calls: what a host that keeps its store to itself may use in their place. They ask for a sound store and do not test it, so a
+// host may call them only on words that setup made and that nobody but these functions has written since. Each leaves a sound store,
+// so that promise keeps itself. Slices, pointers and codes are as in crate exports.
 use rules::EventKey;
 ghost use mathlib.Core.Path.{_≡_};
 ghost use Rattle.rules.specs.Quantities.{key};
