@@ -189,9 +189,9 @@ from-fresh l start w s e ds c =
           let z = go np nb U (callsOf xs) on (unrefused v xs (r .sound) cx ax) (callsOf ys) o in
           let q = leaves v ys (r .sound) cy in (
             accepted v ys (r .sound) cy (z .0),
-            subst (λ (m : Market). Ends (marketOf v) U (callsOf xs) m (putOut ys) (answersOf ys)) (q .0)
-                (subst (λ (x : List Applied). Ends (marketOf v) U (callsOf xs) (after (marketOf v) (callsOf ys)) x (answersOf ys)) (q .1)
-                (subst (λ (a : List Said). Ends (marketOf v) U (callsOf xs) (after (marketOf v) (callsOf ys)) (records (marketOf v) (callsOf ys)) a)
+            subst (λ (m : Market). Ends (marketOf v) U (callsOf xs) (callsOf ys) m (putOut ys) (answersOf ys)) (q .0)
+                (subst (λ (x : List Applied). Ends (marketOf v) U (callsOf xs) (callsOf ys) (after (marketOf v) (callsOf ys)) x (answersOf ys)) (q .1)
+                (subst (λ (a : List Said). Ends (marketOf v) U (callsOf xs) (callsOf ys) (after (marketOf v) (callsOf ys)) (records (marketOf v) (callsOf ys)) a)
                 (q .2) (z .1))),
           );
     }
@@ -201,7 +201,7 @@ from-fresh l start w s e ds c =
         → ((c n : ℕ) (a b : Bool) → lineFor c m ≡ InLine n a b → m .log .base ≤ n)
         → (U : List Key) (xs : List Call) → GoesOn m U xs → Unrefused m xs
         → (ys : List Call) → ((c : ℕ) → own c ys ≡ own c xs)
-        → Unrefused m ys × Ends m U xs (after m ys) (records m ys) (answers m ys)
+        → Unrefused m ys × Ends m U xs ys (after m ys) (records m ys) (answers m ys)
 
 pub demand3-on-words : Demand3OnWords
 demand3-on-words l start before w m ds c = let r = made l start before w m in from-fresh l start w (r .0) (r .1) ds c

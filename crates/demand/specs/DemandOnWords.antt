@@ -71,7 +71,8 @@ pub record DemandOn (l : Limits) (start : ℕ) (w : List ℕ) (ds : List Made) :
       → ((c n : ℕ) (a b : Bool) → lineFor c (marketOf (lastStore w ds)) ≡ InLine n a b → marketOf (lastStore w ds) .log .base ≤ n)
       → (U : List Key) (xs : List Made) → Chain (lastStore w ds) xs → GoesOn (marketOf (lastStore w ds)) U (callsOf xs) → Each Accepted xs
       → (ys : List Made) → Chain (lastStore w ds) ys → ((c : ℕ) → own c (callsOf ys) ≡ own c (callsOf xs))
-      → Each Accepted ys × Ends (marketOf (lastStore w ds)) U (callsOf xs) (marketOf (lastStore (lastStore w ds) ys)) (putOut ys) (answersOf ys)
+      → Each Accepted ys
+      × Ends (marketOf (lastStore w ds)) U (callsOf xs) (callsOf ys) (marketOf (lastStore (lastStore w ds) ys)) (putOut ys) (answersOf ys)
 
 -- from any store that setup has made, whatever words it was before
 abbrev pub Demand3OnWords : Type 0

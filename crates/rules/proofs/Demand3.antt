@@ -1,7 +1,7 @@
 -- Demand 3, proved.
 use mathlib.Core.Path.{_≡_, refl, sym, _∙_, ap, subst, fun-ext}
 use mathlib.Core.List.{List, [], _∷_, _++_, map}
-use mathlib.Core.Bool.{Bool, true, false, cond}
+use mathlib.Core.Bool.{Bool, true, false, _||_, cond}
 use Prim.Native.Nat.{ℕ, suc, _+_, _-_, _≤_, _<_}
 use native.Mathlib.Omega.{arith}
 use lib.Dec.{ltb, eqb}
@@ -16,7 +16,7 @@ use Rattle.rules.specs.Log.{end, keys}
 use Rattle.rules.specs.Lines.{Connection, Failed, InLine, Line, Market, Pending, Waiting, isPending, nobody}
 use Rattle.rules.specs.Refusals.{BookEvent, Call, Drop, Print, Promote, Reset, Snapshot, Subscribe, Tick, roomNeeded, short}
 use Rattle.rules.specs.Answers.{Said}
-use Rattle.rules.specs.Demand.{Demand, Demand3, Ends, Goes, GoesOn, History, Sent, SentAs, Unrefused, advanced, after, answers, bookKeys, books, deliveredOf, eventsOf, farthest, highest, lineFor, nextOf, numbered, own, ownBooks, ownPrints, printsBy, records, run, setUp, timeless}
+use Rattle.rules.specs.Demand.{Demand, Demand3, Ends, Goes, GoesOn, History, Sent, SentAs, Unrefused, advanced, after, answers, bookKeys, books, deliveredOf, eventsOf, farthest, highest, isPrinted, lineFor, nextOf, numbered, own, ownBooks, ownPrints, printsBy, records, run, setUp, timeless}
 use Rattle.rules.proofs.Tests.{eqb-other, eqb-same, ff≢tt, or-false-left, or-false-right}
 use Rattle.rules.proofs.ListLaws.{each-imp}
 use Rattle.rules.proofs.Order.{same-itself, same-true, samePair, samePair-itself, samePair-true}
@@ -116,7 +116,7 @@ module _ (U : List Key) (m : Market) (xs ys : List Call) (o : (c : ℕ) → own 
       go Kind.Book t = subst (In r) (sym (own-books c n ys) ∙ ap (ownBooks c n) (o c) ∙ own-books c n xs) t
       go Kind.Print t = (subst (In (r .key, r .message)) (sym (own-copies c ys) ∙ ap (ownPrints c) (o c) ∙ own-copies c xs) (t .0), t .1, t .2)
 
-  ends : (m′ : Market) (out : List Applied) (said : List Said) → Closed U m ys m′ out said → Ends m U xs m′ out said
+  ends : (m′ : Market) (out : List Applied) (said : List Said) → Closed U m ys m′ out said → Ends m U xs ys m′ out said
   ends m′ out said c =
       let l₁ = length-map (m .log .entries) (λ e. e .0) in
       let l₂ = length-map (m′ .log .entries) (λ e. e .0) in
@@ -134,10 +134,14 @@ module _ (U : List Key) (m : Market) (xs ys : List Call) (o : (c : ℕ) → own 
         rise = c .rise;
         answered = c .answered;
         delivered = λ k d. c .delivered k d ∙ ap (λ (n : ℕ). deliveredOf k d m + n) (prints-same k d);
+        keyRows = λ k. c .keyHas k ∙ ap (λ (f : ℕ → ℕ). seenKey m k || isPrinted m f) (printing-same k);
+        countRows = λ k d. c .pairHas k d ∙ ap (λ (n : ℕ). seenPair m (k, d) || ltb 0 n) (prints-same k d);
         sent = each-imp (Sent m ys) (Sent m xs) sent-same out (c .sent);
+        log = c .log;
+        touched = c .touched;
       }
 
-  pub any-order : Going U m xs → Unrefused m xs → Unrefused m ys × Ends m U xs (after m ys) (records m ys) (answers m ys)
+  pub any-order : Going U m xs → Unrefused m xs → Unrefused m ys × Ends m U xs ys (after m ys) (records m ys) (answers m ys)
   any-order g u =
       let g′ = going-order g in
       let u′ = unrefused-of U ys m g′ (fits-order (fits-of U xs m g u)) in

@@ -1,8 +1,9 @@
 -- Connections in line go on: what one accepted call changes, in terms that no order changes, and what makes a call refused.
 use mathlib.Core.Path.{_≡_, refl}
 use mathlib.Core.List.{List, [], _∷_, _++_, map}
-use mathlib.Core.Bool.{Bool, true, false}
+use mathlib.Core.Bool.{Bool, true, false, _||_}
 use Prim.Native.Nat.{ℕ, _+_, _-_, _^_, _≤_, _<_}
+use lib.Dec.{ltb}
 use lib.ListN.{length, drop}
 use Rattle.rules.specs.declared.Applied.{Applied}
 use Rattle.rules.specs.Lists.{Each, any}
@@ -12,8 +13,8 @@ use Rattle.rules.specs.Prints.{ofKey, ofPair}
 use Rattle.rules.specs.Lines.{Connection, Failed, InLine, Line, Market, Pending, Waiting, isInLine, itemCount}
 use Rattle.rules.specs.Calls.{Outcome, did, refuse, refused}
 use Rattle.rules.specs.Refusals.{BookEvent, Call, Drop, Print, Promote, Reset, Snapshot, Subscribe, Tick, short}
-use Rattle.rules.specs.Answers.{saidBy}
-use Rattle.rules.specs.Demand.{ApplyOrDuplicate, Goes, Sent, advanced, appliedOf, books, copies, deliveredOf, eventsOf, farthest, highest, numbered, printsBy}
+use Rattle.rules.specs.Answers.{Said, saidBy}
+use Rattle.rules.specs.Demand.{ApplyOrDuplicate, Goes, Sent, advanced, appliedOf, books, copies, deliveredOf, eventsOf, farthest, highest, isPrinted, numbered, printsBy, pushedBy, touchedBy, touchedOf}
 use Rattle.rules.proofs.Tests.{ff≢tt}
 use Rattle.rules.proofs.Order.{samePair}
 use Rattle.rules.proofs.Tables.{news}
@@ -134,6 +135,8 @@ pub record Printed (m : Market) (x : Call) (xs : List Call) (m′ : Market) (out
   pub pairRow : length (m′ .prints .countRows) + newPairs m′ xs ≡ length (m .prints .countRows) + newPairs m (x ∷ xs)
   pub pairLe : length (m .prints .countRows) ≤ length (m′ .prints .countRows)
   pub pairFits : length (m .prints .countRows) < length (m′ .prints .countRows) → length (m′ .prints .countRows) ≤ m .limits .D
+  pub keyHas : (k : Key) → (seenKey m′ k || isPrinted m′ (printing k xs)) ≡ (seenKey m k || isPrinted m (printing k (x ∷ xs)))
+  pub pairHas : (k : Key) (c : ℕ) → (seenPair m′ (k, c) || ltb 0 (printsBy k c xs)) ≡ (seenPair m (k, c) || ltb 0 (printsBy k c (x ∷ xs)))
 
 pub record Next (U : List Key) (m : Market) (x : Call) (xs : List Call) (m′ : Market) (out : List Applied) : Type 0 where
   pub limits : m′ .limits ≡ m .limits
@@ -142,10 +145,16 @@ pub record Next (U : List Key) (m : Market) (x : Call) (xs : List Call) (m′ : 
   pub prints : Printed m x xs m′ out
   pub sent : Each (Sent m (x ∷ xs)) out
 
--- an outcome judged: an accepted call is answered Apply or Duplicate and changes what Next says, and what fits is accepted
+-- and of the stamps, s being its answer
+pub record Stamped (m : Market) (x : Call) (s : Said) (m′ : Market) : Type 0 where
+  pub log : m′ .log ≡ pushedBy x s (m .log)
+  pub touched : (k : Key) → touchedOf k m′ ≡ touchedBy k x (touchedOf k m)
+
+-- an outcome judged: an accepted call is answered Apply or Duplicate and changes what Next and Stamped say, and what fits is accepted
 abbrev pub Judged : List Key → Market → Call → List Call → Outcome → Type 0
 Judged U m x xs (refused n) = Fits m (x ∷ xs) → ⊥
-Judged U m x xs (did a rs w) = ApplyOrDuplicate (saidBy (did a rs w)) × Next U m x xs (w .market) (w .out)
+Judged U m x xs (did a rs w) =
+    ApplyOrDuplicate (saidBy (did a rs w)) × Next U m x xs (w .market) (w .out) × Stamped m x (saidBy (did a rs w)) (w .market)
 
 pub refuse-judged : (U : List Key) (m : Market) (x : Call) (xs : List Call) (b : Bool) (n : ℕ) (o : Outcome) → (Fits m (x ∷ xs) → b ≡ false) → (b ≡ false → Judged U m x xs o) → Judged U m x xs (refuse b n o)
 refuse-judged U m x xs true n o f h = λ t. ff≢tt (f t) refl

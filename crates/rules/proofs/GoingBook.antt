@@ -2,7 +2,7 @@
 use mathlib.Core.Path.{_≡_, refl, sym, _∙_, ap, subst}
 use mathlib.Core.Logic.{_≢_, inl, inr}
 use mathlib.Core.List.{List, [], _∷_, _++_, map, append-assoc}
-use mathlib.Core.Bool.{Bool, true, false, cond}
+use mathlib.Core.Bool.{Bool, true, false, _||_, cond}
 use Prim.Native.Nat.{ℕ, suc, _+_, _-_, _^_, _≤_, _<_, max}
 use native.Mathlib.Omega.{arith}
 use lib.Dec.{ltb}
@@ -18,14 +18,14 @@ use Rattle.rules.specs.Calls.{apply, bookEvent, did, fullLog, fullNumber
 use Rattle.rules.specs.Refusals.{BookEvent, Call, short, step}
 use Rattle.rules.specs.Demand.{Sent, advanced, appliedOf, books, copies, deliveredOf, eventsOf, farthest, forward, highest, lineFor, nextOf, numbered, printsBy, reach}
 use Rattle.rules.proofs.Tests.{by-cond, eqb-other, eqb-same, ff≢tt, leb-false, lt-leb, ltb-false, ltb-true}
-use Rattle.rules.proofs.ListLaws.{append-nil, each-at, each-imp, map-append}
+use Rattle.rules.proofs.ListLaws.{any-set, append-nil, each-at, each-imp, map-append}
 use Rattle.rules.proofs.Order.{same-itself}
 use Rattle.rules.proofs.Tables.{cond-same}
 use Rattle.rules.proofs.Invariant.{present, revise, sorted-set}
 use Rattle.rules.proofs.History.{conn-of}
 use Rattle.rules.proofs.Still.{Still, in-line-set, largest-absorb, largest-at-least, map-set, sum-set-same, sweep-still}
 use Rattle.rules.proofs.SentCalls.{sent-book}
-use Rattle.rules.proofs.Going.{Calm, CalmLine, Going, Judged, Moved, Next, Printed, counting, printKeys, printPairs, refuse-judged}
+use Rattle.rules.proofs.Going.{Calm, CalmLine, Going, Judged, Moved, Next, Printed, Stamped, counting, printKeys, printPairs, refuse-judged, seenKey}
 
 module _ (U : List Key) (m : Market) (c : ℕ) (k : Key) (msg now room : ℕ) (xs : List Call) (g : Going U m (BookEvent c k msg now room ∷ xs))
     (n : ℕ) (a b : Bool) (e : lineFor c m ≡ InLine n a b) where
@@ -170,6 +170,8 @@ module _ (U : List Key) (m : Market) (c : ℕ) (k : Key) (msg now room : ℕ) (x
     pairRow = refl;
     pairLe = omega arith;
     pairFits = λ z. absurd (omega arith);
+    keyHas = λ j. ap (λ (z : Bool). seenKey m j || z) (any-set (λ (s : Connection). ltb 0 (printsBy j (s .conn) xs)) (m .lines) i v nobody refl);
+    pairHas = λ j d. refl;
   }
 
   next-key : n < end (m .log) → getD (keys (m .log)) (n - m .log .base) noKey ≡ k
@@ -234,10 +236,10 @@ module _ (U : List Key) (m : Market) (c : ℕ) (k : Key) (msg now room : ℕ) (x
       (subst (λ j. Sent m (x ∷ xs) (bookOut c j k msg)) (ap nextOf e ∙ q) (sent-book m c k msg now room xs)) in
       let nx : Next U m x xs (w .market) (w .out) = record { limits = refl; room = rm; log = mo; prints = pr; sent = (se, tt) } in
       let sw = sweep-still now w st in
-      subst (λ (z : Work). Judged U m x xs (did apply [] z)) (sym sw) (inl refl, nx)
+      subst (λ (z : Work). Judged U m x xs (did apply [] z)) (sym sw) (inl refl, nx, record { log = refl; touched = λ j. refl })
 
   judged-in-line : short room m ≡ false → Judged U m x xs (bookEvent i k msg now m (InLine n a b))
-  unfolding bookEvent
+  unfolding bookEvent x
   judged-in-line rm =
       let J = Judged U m x xs in
       let r = ready in
@@ -246,7 +248,7 @@ module _ (U : List Key) (m : Market) (c : ℕ) (k : Key) (msg now room : ℕ) (x
       by-cond J (ltb n (m .log .base)) (λ q. absurd (let z : n < m .log .base = ltb-true q in omega arith))
       (λ q. by-cond J (ltb n (end (m .log)))
       (λ t. by-cond J (same (getD (keys (m .log)) (n - m .log .base) noKey) k)
-      (λ z. (inr refl, copied rm (ltb-true t)))
+      (λ z. (inr refl, copied rm (ltb-true t), record { log = refl; touched = λ j. refl }))
       (λ z. absurd (ff≢tt z (ap (λ (y : Key). same y k) (next-key (ltb-true t)) ∙ same-itself k))))
       (λ t. let hi : end (m .log) ≤ n = ltb-false t in
       let fa = far-at in

@@ -12,20 +12,20 @@ use Rattle.rules.specs.Lists.{any, largest}
 use Rattle.rules.specs.Quantities.{Key, maxCount, printOut, same}
 use Rattle.rules.specs.Log.{keys}
 use Rattle.rules.specs.Prints.{KeyRow, appliedIn, counted, deliver, deliveredIn, ofKey, ofPair, setApplied, touch}
-use Rattle.rules.specs.Lines.{Connection, Failed, InLine, Line, Market, Pending, Waiting, connAt, isFailed, isInLine, lineOf, withPrints}
+use Rattle.rules.specs.Lines.{Connection, Failed, InLine, Line, Market, Pending, Waiting, connAt, isFailed, isInLine, lineOf, nobody, withPrints}
 use Rattle.rules.specs.Calls.{Outcome, ignored, just, print, printCounted, refuse}
 use Rattle.rules.specs.Refusals.{Call, Print, short, step}
-use Rattle.rules.specs.Demand.{appliedOf, books, copies, deliveredOf, eventsOf, farthest, highest, lineFor, numbered, printsBy}
-use Rattle.rules.proofs.Tests.{by-cond, eqb-other, eqb-same, ff≢tt, leb-false, leb-true, lt-leb, lt-ltb, ltb-false, or-false-left, or-false-right}
-use Rattle.rules.proofs.ListLaws.{append-nil}
+use Rattle.rules.specs.Demand.{appliedOf, books, copies, deliveredOf, eventsOf, farthest, highest, isPrinted, lineFor, numbered, printsBy}
+use Rattle.rules.proofs.Tests.{by-cond, eqb-other, eqb-same, ff≢tt, leb-false, leb-true, lt-leb, lt-ltb, ltb-false, or-false-left, or-false-right, or-moved}
+use Rattle.rules.proofs.ListLaws.{any-at, append-nil}
 use Rattle.rules.proofs.Order.{same-itself, same-true, samePair, samePair-itself, samePair-true}
 use Rattle.rules.proofs.Tables.{news, news-step}
-use Rattle.rules.proofs.PrintLaws.{deliver-any, deliver-delivered, deliver-length, setApplied-any, setApplied-applied, setApplied-length, touch-any, touch-applied, touch-length}
+use Rattle.rules.proofs.PrintLaws.{deliver-any, deliver-delivered, deliver-length, setApplied-any, setApplied-applied, setApplied-length, setApplied-touched, touch-any, touch-applied, touch-length, touch-touched}
 use Rattle.rules.proofs.Invariant.{present}
 use Rattle.rules.proofs.History.{conn-of}
 use Rattle.rules.proofs.Still.{largest-shift}
 use Rattle.rules.proofs.SentCalls.{sent-print}
-use Rattle.rules.proofs.Going.{Fits, Going, Judged, Moved, Printed, printKeys, printPairs, printing, refuse-judged, seenKey, seenPair}
+use Rattle.rules.proofs.Going.{Fits, Going, Judged, Moved, Printed, Stamped, printKeys, printPairs, printing, refuse-judged, seenKey, seenPair}
 
 -- ---- a print
 
@@ -65,6 +65,37 @@ module _ (U : List Key) (m : Market) (c : ℕ) (k : Key) (msg now room : ℕ) (x
   prints-on : (j : Key) (f : ℕ) → printsBy j f (x ∷ xs) ≡ cond (same k j && eqb c f) (suc (printsBy j f xs)) (printsBy j f xs)
   unfolding x printsBy
   prints-on j f = refl
+
+  more : (b : Bool) (p : ℕ) → ltb 0 (cond b (suc p) p) ≡ (b || ltb 0 p)
+  more true p = lt-ltb 0 (suc p) (omega arith)
+  more false p = refl
+
+  -- the key is printed here if this is a print of it, or one that comes behind
+  key-here : (j : Key) → isPrinted m (printing j (x ∷ xs)) ≡ (same k j || isPrinted m (printing j xs))
+  key-here j = go (same k j) refl
+    where
+      F : ℕ → Bool
+      F f = ltb 0 (printsBy j f (x ∷ xs))
+
+      is : (f : ℕ) → F f ≡ (same k j && eqb c f || ltb 0 (printsBy j f xs))
+      is f = ap (ltb 0) (prints-on j f) ∙ more (same k j && eqb c f) (printsBy j f xs)
+
+      i : ℕ
+      i = lineOf c m
+
+      go : (b : Bool) → same k j ≡ b → any (λ s. F (s .conn)) (m .lines) ≡ (b || isPrinted m (printing j xs))
+      go true z = any-at (λ s. F (s .conn)) (m .lines) i nobody (present (m .lines) (lineOf c m) (ap isFailed e))
+          (ap F (conn-of c m (ap isFailed e)) ∙ is c ∙ ap (λ (y : Bool). y && eqb c c || ltb 0 (printsBy j c xs)) z
+          ∙ ap (λ (y : Bool). y || ltb 0 (printsBy j c xs)) (eqb-same c))
+      go false z = ap (λ (y : ℕ → Bool). any (λ s. y (s .conn)) (m .lines))
+          (fun-ext (λ f. is f ∙ ap (λ (y : Bool). y && eqb c f || ltb 0 (printsBy j f xs)) z))
+
+  pair-has : (cs : List KeyRow) (j : Key) (f : ℕ) → (seenPair (M cs) (j, f) || ltb 0 (printsBy j f xs)) ≡ (seenPair m (j, f) || ltb 0 (printsBy j f (x ∷ xs)))
+  unfolding M
+  pair-has cs j f =
+      ap (λ (y : Bool). y || ltb 0 (printsBy j f xs)) (deliver-any k c (m .prints .countRows) (j, f))
+      ∙ or-moved (samePair (k, c) (j, f)) (seenPair m (j, f)) (ltb 0 (printsBy j f xs))
+      ∙ ap (λ (y : Bool). seenPair m (j, f) || y) (sym (ap (ltb 0) (prints-on j f) ∙ more (same k j && eqb c f) (printsBy j f xs)))
 
   counts-on : (cs : List KeyRow) (j : Key) (f : ℕ) → deliveredOf j f (M cs) + printsBy j f xs ≡ deliveredOf j f m + printsBy j f (x ∷ xs)
   unfolding d
@@ -149,6 +180,12 @@ module _ (U : List Key) (m : Market) (c : ℕ) (k : Key) (msg now room : ℕ) (x
         (t₇ : (not (any (ofKey k) (m .prints .keyRows)) && leb (m .limits .C) (length (m .prints .keyRows))
         || not (any (ofPair k c) (m .prints .countRows)) && leb (m .limits .D) (length (m .prints .countRows))) ≡ false)
         (d-fits : d ≤ 2 ^ 32 - 1) where
+      key-has : (j : Key) → (seenKey (M cs) j || isPrinted (M cs) (printing j xs)) ≡ (seenKey m j || isPrinted m (printing j (x ∷ xs)))
+      unfolding M
+      key-has j =
+          ap (λ (y : Bool). y || isPrinted m (printing j xs)) (any-cs j)
+          ∙ or-moved (same k j) (seenKey m j) (isPrinted m (printing j xs)) ∙ ap (λ (y : Bool). seenKey m j || y) (sym (key-here j))
+
       row-le : (b : Bool) (u v : ℕ) → u ≡ cond b v (suc v) → v ≤ u
       row-le true u v q = omega arith
       row-le false u v q = omega arith
@@ -174,6 +211,8 @@ module _ (U : List Key) (m : Market) (c : ℕ) (k : Key) (msg now room : ℕ) (x
             pairRow = news-step samePair (k, c) (printPairs xs) (seenPair m) (seenPair (M cs)) (length (m .prints .countRows)) (length (deliver k c (m .prints .countRows))) samePair-true (λ q. deliver-any k c (m .prints .countRows) q) bl;
             pairLe = row-le (any (ofPair k c) (m .prints .countRows)) (length (deliver k c (m .prints .countRows))) (length (m .prints .countRows)) bl;
             pairFits = row-fits (any (ofPair k c) (m .prints .countRows)) (length (deliver k c (m .prints .countRows))) (length (m .prints .countRows)) (m .limits .D) bl (or-false-right C₇ D₇ t₇);
+            keyHas = key-has;
+            pairHas = pair-has cs;
           }
 
   -- delivered at most applied: a duplicate
@@ -214,6 +253,7 @@ module _ (U : List Key) (m : Market) (c : ℕ) (k : Key) (msg now room : ℕ) (x
               (λ j. let z = touch-applied k now (m .prints .keyRows) j in omega arith);
           sent = tt;
         },
+        record { log = refl; touched = touch-touched k now (m .prints .keyRows) },
       ))
       (λ q. let lt : appliedOf k m < d = leb-false q in
       let out : List Applied = printOut c k msg (d - appliedOf k m) ∷ [] in (
@@ -226,6 +266,7 @@ module _ (U : List Key) (m : Market) (c : ℕ) (k : Key) (msg now room : ℕ) (x
               (λ j. sym (raised-on lt j ∙ go lt j (same k j) refl));
           sent = (sent-print m c k msg now room xs (d - appliedOf k m) (omega arith), tt);
         },
+        record { log = refl; touched = λ j. setApplied-touched k d cs j touched-any ∙ touch-touched k now (m .prints .keyRows) j },
       ))
     where
       go : appliedOf k m < d → (j : Key) (b : Bool) → same k j ≡ b → cond b (max (appliedOf k m) d) (appliedOf j m) ≡ appliedOf j m + (cond b (d - appliedOf k m) 0 + 0)

@@ -1,14 +1,14 @@
 -- Laws of lists: what holds of each element, and of the lists with tests.
-use mathlib.Core.Path.{_≡_, refl, ap, subst}
+use mathlib.Core.Path.{_≡_, refl, _∙_, ap, subst}
 use mathlib.Core.List.{List, [], _∷_, _++_, map}
 use mathlib.Core.Option.{some}
-use mathlib.Core.Bool.{Bool, true}
+use mathlib.Core.Bool.{Bool, true, false, _||_}
 use Prim.Native.Nat.{ℕ, zero, suc, _+_, _≤_, _<_}
 use native.Mathlib.Omega.{arith}
 use native.Mathlib.Nat.{not-suc-le-zero, le-of-suc-le-suc}
 use lib.ListN.{length, getD, drop, set}
-use Rattle.rules.specs.Lists.{keep, only, count, Each, Rising}
-use Rattle.rules.proofs.Tests.{by-cond}
+use Rattle.rules.specs.Lists.{keep, any, only, count, Each, Rising}
+use Rattle.rules.proofs.Tests.{by-cond, or-true}
 
 module _ {A : Type 0} where
   pub each-imp : (P Q : A → Type 0) → ((x : A) → P x → Q x) → (l : List A) → Each P l → Each Q l
@@ -28,6 +28,20 @@ module _ {A : Type 0} where
   each-at P [] i d h e = absurd (not-suc-le-zero h)
   each-at P (x ∷ xs) zero d h e = e .0
   each-at P (x ∷ xs) (suc i) d h e = each-at P xs i d (le-of-suc-le-suc h) (e .1)
+
+  pub any-at : (t : A → Bool) (l : List A) (i : ℕ) (d : A) → i < length l → t (getD l i d) ≡ true → any t l ≡ true
+  any-at t [] i d h e = absurd (not-suc-le-zero h)
+  any-at t (x ∷ xs) zero d h e = ap (λ (b : Bool). b || any t xs) e
+  any-at t (x ∷ xs) (suc i) d h e = ap (λ (b : Bool). t x || b) (any-at t xs i d (le-of-suc-le-suc h) e) ∙ or-true (t x)
+
+  pub any-set : (t : A → Bool) (l : List A) (i : ℕ) (v d : A) → t v ≡ t (getD l i d) → any t (set l i v) ≡ any t l
+  any-set t [] i v d e = refl
+  any-set t (x ∷ xs) zero v d e = ap (λ (b : Bool). b || any t xs) e
+  any-set t (x ∷ xs) (suc i) v d e = ap (λ (b : Bool). t x || b) (any-set t xs i v d e)
+
+  pub any-none : (l : List A) → any (λ x. false) l ≡ false
+  any-none [] = refl
+  any-none (x ∷ xs) = any-none xs
 
   pub append-nil : (l : List A) → l ++ [] ≡ l
   append-nil [] = refl

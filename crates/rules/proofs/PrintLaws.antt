@@ -21,6 +21,9 @@ keyId r = r .key
 countId : CountRow → Key × ℕ
 countId r = (r .key, r .conn)
 
+abbrev pub touchedIn : Key → List KeyRow → ℕ
+touchedIn k rs = maybe 0 (λ r. r .touched) (first (ofKey k) rs)
+
 -- ---- touch
 
 touched : ℕ → KeyRow → KeyRow
@@ -49,6 +52,11 @@ module _ (k : Key) (now : ℕ) (rs : List KeyRow) where
       go true e = ap (λ (z : Key). appliedIn z rs) (same-true k j e)
       go false e = refl
 
+  pub touch-touched : (j : Key) → touchedIn j (touch k now rs) ≡ cond (same k j) now (touchedIn j rs)
+  unfolding keyId touched newKey
+  touch-touched j = upsert-look keyId same same-true same-itself keyBefore (λ r. r .touched) k j (touched now) (newKey k now) rs now
+      (λ r. refl) refl (λ r q. refl) (λ q. refl)
+
   pub touch-rises : Rising KeyLess rs → Rising KeyLess (touch k now rs)
   unfolding keyId touched newKey
   touch-rises o = rising-upsert keyId same same-true same-itself keyBefore before (λ x y. refl) before-trans before-total k (touched now) (newKey k now) rs (λ r. refl) refl o
@@ -66,6 +74,16 @@ module _ (k : Key) (d : ℕ) (rs : List KeyRow) where
   pub setApplied-applied : (j : Key) → any (ofKey k) rs ≡ true → appliedIn j (setApplied k d rs) ≡ cond (same k j) d (appliedIn j rs)
   unfolding keyId appliedAt
   setApplied-applied j e = look-amend keyId same same-true same-itself (λ r. r .applied) (appliedAt d) (λ r. refl) k j rs e d (λ r q. refl)
+
+  pub setApplied-touched : (j : Key) → any (ofKey k) rs ≡ true → touchedIn j (setApplied k d rs) ≡ touchedIn j rs
+  unfolding keyId appliedAt
+  setApplied-touched j e =
+      look-amend keyId same same-true same-itself (λ r. r .touched) (appliedAt d) (λ r. refl) k j rs e (touchedIn k rs) (λ r q. sym q)
+      ∙ go (same k j) refl
+    where
+      go : (b : Bool) → same k j ≡ b → cond b (touchedIn k rs) (touchedIn j rs) ≡ touchedIn j rs
+      go true q = ap (λ (z : Key). touchedIn z rs) (same-true k j q)
+      go false q = refl
 
   pub setApplied-any : (j : Key) → any (ofKey j) (setApplied k d rs) ≡ any (ofKey j) rs
   unfolding keyId appliedAt

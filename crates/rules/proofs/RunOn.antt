@@ -2,7 +2,7 @@
 use mathlib.Core.Path.{_≡_, refl, sym, _∙_, ap, subst}
 use mathlib.Core.Logic.{_⊎_, inl, inr}
 use mathlib.Core.List.{List, [], _∷_, _++_, map, append-assoc}
-use mathlib.Core.Bool.{true, false}
+use mathlib.Core.Bool.{Bool, true, false, _||_}
 use Prim.Native.Nat.{ℕ, zero, suc, _+_, _-_, _^_, _≤_, _<_}
 use native.Mathlib.Omega.{arith}
 use lib.Dec.{ltb}
@@ -16,13 +16,13 @@ use Rattle.rules.specs.Lines.{Connection, Failed, InLine, Line, Market, 
 use Rattle.rules.specs.Calls.{Outcome, did, refused}
 use Rattle.rules.specs.Refusals.{BookEvent, Call, Drop, Print, Promote, Reset, Snapshot, Subscribe, Tick, roomNeeded, step}
 use Rattle.rules.specs.Answers.{Said, saidBy}
-use Rattle.rules.specs.Demand.{ApplyOrDuplicate, Goes, Passed, Sent, Unrefused, advanced, after, answers, appliedOf, books, copies, deliveredOf, eventsOf, farthest, forward, highest, marketAfter, numbered, printsBy, reach, records, recordsOf}
-use Rattle.rules.proofs.Tests.{either, ltb-false, ltb-true}
-use Rattle.rules.proofs.ListLaws.{append-nil, each-append, each-imp, each-map}
+use Rattle.rules.specs.Demand.{ApplyOrDuplicate, Goes, Passed, Sent, Unrefused, advanced, after, answers, appliedOf, books, copies, deliveredOf, eventsOf, farthest, forward, highest, isPrinted, lastTouch, logBy, marketAfter, numbered, printsBy, reach, records, recordsOf, touchedOf}
+use Rattle.rules.proofs.Tests.{either, ltb-false, ltb-true, or-false}
+use Rattle.rules.proofs.ListLaws.{any-none, append-nil, each-append, each-imp, each-map}
 use Rattle.rules.proofs.Invariant.{books-append}
 use Rattle.rules.proofs.Still.{largest-same, lineIn, numbered-append}
 use Rattle.rules.proofs.SentCalls.{sent-later}
-use Rattle.rules.proofs.Going.{Calm, CalmLine, Fits, Going, Judged, Next, counting, newKeys, newPairs, printKeys, printPairs, printing, roomOf}
+use Rattle.rules.proofs.Going.{Calm, CalmLine, Fits, Going, Judged, Next, Stamped, counting, newKeys, newPairs, printKeys, printPairs, printing, roomOf, seenKey, seenPair}
 use Rattle.rules.proofs.GoingBook.{book-judged}
 use Rattle.rules.proofs.GoingPrint.{print-judged}
 
@@ -204,7 +204,11 @@ pub record Closed (U : List Key) (m : Market) (xs : List Call) (m′ : Market) (
   pub rise : (k : Key) → appliedOf k m + copies k out ≡ appliedOf k m′
   pub answered : Each ApplyOrDuplicate said
   pub delivered : (k : Key) (c : ℕ) → deliveredOf k c m′ ≡ deliveredOf k c m + printsBy k c xs
+  pub keyHas : (k : Key) → seenKey m′ k ≡ (seenKey m k || isPrinted m (printing k xs))
+  pub pairHas : (k : Key) (c : ℕ) → seenPair m′ (k, c) ≡ (seenPair m (k, c) || ltb 0 (printsBy k c xs))
   pub sent : Each (Sent m xs) out
+  pub log : m′ .log ≡ logBy xs said (m .log)
+  pub touched : (k : Key) → touchedOf k m′ ≡ lastTouch k xs (touchedOf k m)
 
 copies-append : (k : Key) (a b : List Applied) → copies k (a ++ b) ≡ copies k a + copies k b
 unfolding copies
@@ -212,7 +216,7 @@ copies-append k [] b = omega arith
 copies-append k (r ∷ rs) b = let h = copies-append k rs b in omega arith
 
 closed-none : (U : List Key) (m : Market) → Going U m [] → Closed U m [] m [] []
-unfolding books numbered copies printsBy
+unfolding books numbered copies printsBy logBy lastTouch
 closed-none U m g = record {
   limits = refl;
   lines = lines-none (m .lines);
@@ -227,12 +231,17 @@ closed-none U m g = record {
   rise = λ k. omega arith;
   answered = tt;
   delivered = λ k c. omega arith;
+  keyHas = λ k. sym (ap (λ (b : Bool). seenKey m k || b) (any-none (m .lines)) ∙ or-false (seenKey m k));
+  pairHas = λ k c. sym (or-false (seenPair m (k, c)));
   sent = tt;
+  log = refl;
+  touched = λ k. refl;
 }
 
 closed-step : (U : List Key) (m : Market) (x : Call) (xs : List Call) (m₁ m₂ : Market) (o₁ o₂ : List Applied) (s₁ : Said) (s₂ : List Said)
-    → Goes m x → ApplyOrDuplicate s₁ → Next U m x xs m₁ o₁ → Closed U m₁ xs m₂ o₂ s₂ → Closed U m (x ∷ xs) m₂ (o₁ ++ o₂) (s₁ ∷ s₂)
-closed-step U m x xs m₁ m₂ o₁ o₂ s₁ s₂ goes s n c =
+    → Goes m x → ApplyOrDuplicate s₁ → Next U m x xs m₁ o₁ → Stamped m x s₁ m₁ → Closed U m₁ xs m₂ o₂ s₂ → Closed U m (x ∷ xs) m₂ (o₁ ++ o₂) (s₁ ∷ s₂)
+unfolding logBy lastTouch
+closed-step U m x xs m₁ m₂ o₁ o₂ s₁ s₂ goes s n t c =
     let l = n .log in record {
       limits = c .limits ∙ n .limits;
       lines = c .lines ∙ l .lines;
@@ -249,8 +258,12 @@ closed-step U m x xs m₁ m₂ o₁ o₂ s₁ s₂ goes s n c =
       rise = λ k. let a = n .prints .rise k in let b = c .rise k in let d = copies-append k o₁ o₂ in omega arith;
       answered = (s, c .answered);
       delivered = λ k d. c .delivered k d ∙ n .prints .deliveries k d;
+      keyHas = λ k. c .keyHas k ∙ n .prints .keyHas k;
+      pairHas = λ k d. c .pairHas k d ∙ n .prints .pairHas k d;
       sent = each-append (Sent m (x ∷ xs)) o₁ o₂ (n .sent)
           (each-imp (Sent m₁ xs) (Sent m (x ∷ xs)) (sent-later m m₁ x xs goes (l .goers) (l .lines)) o₂ (c .sent));
+      log = c .log ∙ ap (logBy xs s₂) (t .log);
+      touched = λ k. c .touched k ∙ ap (lastTouch k xs) (t .touched k);
     }
 
 pub closed-of : (U : List Key) (xs : List Call) (m : Market) → Going U m xs → Unrefused m xs → Closed U m xs (after m xs) (records m xs) (answers m xs)
@@ -263,4 +276,4 @@ closed-of U (x ∷ xs) m g u = go (step x m) (judged U m x xs g) u (λ m′ g′
         → Closed U m (x ∷ xs) (after (marketAfter o m) xs) (recordsOf o ++ records (marketAfter o m) xs) (saidBy o ∷ answers (marketAfter o m) xs)
     go (refused n) j p ih = absurd p
     go (did a rs w) j p ih = closed-step U m x xs (w .market) (after (w .market) xs) (w .out) (records (w .market) xs)
-        (saidBy (did a rs w)) (answers (w .market) xs) (g .theirs .0) (j .0) (j .1) (ih (w .market) (going-next U m x xs (w .market) (w .out) g (j .1)) p)
+        (saidBy (did a rs w)) (answers (w .market) xs) (g .theirs .0) (j .0) (j .1) (j .2) (ih (w .market) (going-next U m x xs (w .market) (w .out) g (j .1)) p)

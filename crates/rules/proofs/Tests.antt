@@ -85,6 +85,19 @@ pub or-false-right : (a b : Bool) → (a || b) ≡ false → b ≡ false
 or-false-right true b e = absurd (ff≢tt e refl)
 or-false-right false b e = e
 
+pub or-true : (a : Bool) → (a || true) ≡ true
+or-true true = refl
+or-true false = refl
+
+pub or-false : (a : Bool) → (a || false) ≡ a
+or-false true = refl
+or-false false = refl
+
+-- s goes over from what is there to what is to come
+pub or-moved : (s a g : Bool) → ((s || a) || g) ≡ (a || (s || g))
+or-moved true a g = sym (or-true a)
+or-moved false a g = refl
+
 pub none≢some : {A : Type 0} {a : A} → _≡_ {A = Option A} none (some a) → ⊥
 none≢some e = let z : _≡_ {A = ℕ} 0 1 = cc in omega arith
 

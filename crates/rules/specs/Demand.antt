@@ -2,7 +2,7 @@
 use mathlib.Core.Path.{_≡_}
 use mathlib.Core.Logic.{_⊎_}
 use mathlib.Core.List.{List, [], _∷_, _++_, map}
-use mathlib.Core.Bool.{Bool, true, false, _&&_, cond}
+use mathlib.Core.Bool.{Bool, true, false, _&&_, _||_, cond}
 use Prim.Native.Nat.{ℕ, suc, _+_, _-_, _≤_, _<_}
 use lib.Dec.{ltb, eqb}
 use lib.ListN.{length, take, drop}
@@ -10,14 +10,14 @@ use Rattle.rules.specs.declared.Limits.{Limits}
 use Rattle.rules.specs.declared.Kind.{Kind}
 use Rattle.rules.specs.declared.Kind.the-variants as Kind
 use Rattle.rules.specs.declared.Applied.{Applied}
-use Rattle.rules.specs.Lists.{keep, any, sum, largest, count, Each, In}
+use Rattle.rules.specs.Lists.{keep, any, first, sum, largest, count, maybe, Each, In}
 use Rattle.rules.specs.Quantities.{Key, same, bookOut}
-use Rattle.rules.specs.Log.{keys, end}
-use Rattle.rules.specs.Prints.{appliedIn, deliveredIn}
+use Rattle.rules.specs.Log.{Log, keys, end, push}
+use Rattle.rules.specs.Prints.{ofKey, ofPair, appliedIn, deliveredIn}
 use Rattle.rules.specs.Lines.{Line, Waiting, Pending, InLine, Failed, Connection, Market, fresh, lineOf, connAt, isPending, isInLine}
 use Rattle.rules.specs.Calls.{Answer, done, apply, duplicate, held, ignored, diverged, failed, kept, gone, rebuild, Outcome, refused, did}
 use Rattle.rules.specs.Refusals.{Call, Subscribe, Snapshot, BookEvent, Print, Drop, Promote, Reset, Tick, step}
-use Rattle.rules.specs.Answers.{Said, word, saidBy}
+use Rattle.rules.specs.Answers.{Said, number, word, saidBy}
 
 -- ---- what a list of calls leaves behind, beside the market
 
@@ -236,6 +236,10 @@ unfoldable pub highest : Key → Market → (ℕ → ℕ) → ℕ
 highest k m f =
     largest (appliedOf k m) (map (λ s. cond (ltb 0 (f (s .conn))) (deliveredOf k (s .conn) m + f (s .conn)) 0) (m .lines))
 
+-- a connection prints the key here
+abbrev pub isPrinted : Market → (ℕ → ℕ) → Bool
+isPrinted m f = any (λ s. ltb 0 (f (s .conn))) (m .lines)
+
 abbrev pub ifPrint : Kind → ℕ → ℕ
 ifPrint Kind.Snapshot n = 0
 ifPrint Kind.Book n = 0
@@ -290,6 +294,51 @@ SentAs Kind.Print m xs r = In (r .key, r .message) (ownPrints (r .conn) xs) × (
 abbrev pub Sent : Market → List Call → Applied → Type 0
 Sent m xs r = SentAs (r .kind) m xs r
 
+-- ---- stamps
+
+-- how many records an answer counts
+abbrev pub recordCount : Said → ℕ
+recordCount (number n) = 0
+recordCount (word a records reports) = records
+
+-- a book event that is put out is pushed at its time
+abbrev pub pushedBy : Call → Said → Log → Log
+pushedBy (Subscribe c now) a l = l
+pushedBy (Snapshot c i msg now room) a l = l
+pushedBy (BookEvent c k msg now room) a l = cond (ltb 0 (recordCount a)) (push k now l) l
+pushedBy (Print c k msg now room) a l = l
+pushedBy (Drop c now room) a l = l
+pushedBy (Promote now room) a l = l
+pushedBy (Reset now) a l = l
+pushedBy (Tick answers now room reports) a l = l
+
+-- the log after calls in this order, by their answers
+unfoldable pub logBy : List Call → List Said → Log → Log
+logBy [] said l = l
+logBy (x ∷ xs) [] l = l
+logBy (x ∷ xs) (a ∷ said) l = logBy xs said (pushedBy x a l)
+
+abbrev pub touchedOf : Key → Market → ℕ
+touchedOf k m = maybe 0 (λ r. r .touched) (first (ofKey k) (m .prints .keyRows))
+
+-- a print touches its key
+abbrev pub touchedBy : Key → Call → ℕ → ℕ
+touchedBy k (Subscribe c now) t = t
+touchedBy k (Snapshot c i msg now room) t = t
+touchedBy k (BookEvent c j msg now room) t = t
+touchedBy k (Print c j msg now room) t = cond (same j k) now t
+touchedBy k (Drop c now room) t = t
+touchedBy k (Promote now room) t = t
+touchedBy k (Reset now) t = t
+touchedBy k (Tick answers now room reports) t = t
+
+-- when a key was touched last, after calls in this order
+unfoldable pub lastTouch : Key → List Call → ℕ → ℕ
+lastTouch k [] t = t
+lastTouch k (x ∷ xs) t = lastTouch k xs (touchedBy k x t)
+
+-- ---- the statement
+
 -- the calls xs are of connections in line, and each one's book events follow from its next number the common list U, which begins with the log
 pub record GoesOn (m : Market) (U : List Key) (xs : List Call) : Type 0 where
   pub theirs : Each (Goes m) xs
@@ -297,8 +346,8 @@ pub record GoesOn (m : Market) (U : List Key) (xs : List Call) : Type 0 where
   pub follows : (c n : ℕ) (a b : Bool) → lineFor c m ≡ InLine n a b
       → take (length (eventsOf c xs)) (drop (n - m .log .base) U) ≡ eventsOf c xs
 
--- how the calls xs end, in whatever order they come: m′ after them, out put out, said answered
-pub record Ends (m : Market) (U : List Key) (xs : List Call) (m′ : Market) (out : List Applied) (said : List Said) : Type 0 where
+-- how the calls xs end when they come in the order ys, whatever that is: m′ after them, out put out, said answered
+pub record Ends (m : Market) (U : List Key) (xs ys : List Call) (m′ : Market) (out : List Applied) (said : List Said) : Type 0 where
   pub limits : m′ .limits ≡ m .limits
   -- each next becomes its reach
   pub lines : m′ .lines ≡ map (advanced (λ c. length (eventsOf c xs))) (m .lines)
@@ -314,8 +363,15 @@ pub record Ends (m : Market) (U : List Key) (xs : List Call) (m′ : Market) (ou
   pub answered : Each ApplyOrDuplicate said
   -- delivered before plus prints here
   pub delivered : (k : Key) (c : ℕ) → deliveredOf k c m′ ≡ deliveredOf k c m + printsBy k c xs
-  -- free: whose message a record has, how copies split, the order of the records (and stamps); what holds of it
+  -- a row for each key, and for each key and connection, that had one or is printed here
+  pub keyRows : (k : Key) → any (ofKey k) (m′ .prints .keyRows) ≡ (any (ofKey k) (m .prints .keyRows) || isPrinted m (λ c. printsBy k c xs))
+  pub countRows : (k : Key) (c : ℕ)
+      → any (ofPair k c) (m′ .prints .countRows) ≡ (any (ofPair k c) (m .prints .countRows) || ltb 0 (printsBy k c xs))
+  -- free: whose message a record has, how copies split, the order of the records; what holds of it
   pub sent : Each (Sent m xs) out
+  -- free: stamps. They go by the order ys: an entry and last-applied have the time of the event put out, a key that of its last print
+  pub log : m′ .log ≡ logBy ys said (m .log)
+  pub touched : (k : Key) → touchedOf k m′ ≡ lastTouch k ys (touchedOf k m)
 
 pub record Demand (start : ℕ) (h : History) : Type 0 where
   -- numbered from the start number in the order put out, without gap or repeat
@@ -327,7 +383,7 @@ pub record Demand (start : ℕ) (h : History) : Type 0 where
       → ((c n : ℕ) (a b : Bool) → lineFor c (h .market) ≡ InLine n a b → h .market .log .base ≤ n)
       → (U : List Key) (xs : List Call) → GoesOn (h .market) U xs → Unrefused (h .market) xs
       → (ys : List Call) → ((c : ℕ) → own c ys ≡ own c xs)
-      → Unrefused (h .market) ys × Ends (h .market) U xs (after (h .market) ys) (records (h .market) ys) (answers (h .market) ys)
+      → Unrefused (h .market) ys × Ends (h .market) U xs ys (after (h .market) ys) (records (h .market) ys) (answers (h .market) ys)
 
 abbrev pub Demand3 : Type 0
 Demand3 = (l : Limits) (start : ℕ) (xs : List Call) → Demand start (run (setUp l start) xs)
