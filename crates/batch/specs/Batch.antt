@@ -34,7 +34,14 @@ callIn w m room reports =
     let k = key (getD w 3 0) (getD w 4 0) in
     let message = getD w 5 0 in
     let time = getD w 6 0 in
-    cond (eqb number 1) (some (Subscribe conn time)) (cond (eqb number 2) (some (Snapshot conn (getD w 2 0) message time room)) (cond (eqb number 3) (some (BookEvent conn k message time room)) (cond (eqb number 4) (some (Print conn k message time room)) (cond (eqb number 5) (some (Drop conn time room)) (cond (eqb number 6) (some (Promote time room)) (cond (eqb number 7) (some (Reset time)) (cond (eqb number 8) (some (Tick (bits (length (m .lines)) (getD w 7 0)) time room reports)) none)))))))
+    cond (eqb number 1) (some (Subscribe conn time))
+    (cond (eqb number 2) (some (Snapshot conn (getD w 2 0) message time room))
+    (cond (eqb number 3) (some (BookEvent conn k message time room))
+    (cond (eqb number 4) (some (Print conn k message time room))
+    (cond (eqb number 5) (some (Drop conn time room))
+    (cond (eqb number 6) (some (Promote time room))
+    (cond (eqb number 7) (some (Reset time))
+    (cond (eqb number 8) (some (Tick (bits (length (m .lines)) (getD w 7 0)) time room reports)) none)))))))
 
 -- the calls of a list of words; what is left over is none
 unfoldable pub callsIn : ℕ → List ℕ → List (List ℕ)
@@ -56,8 +63,11 @@ pub record Room : Type 0 where
 
 -- a refusal for want of room (3) ends the list before that call
 abbrev pub after : Outcome → Ran → Option Ran
-after (refused n) k = cond (eqb n 3) none (some (record { market = k .market; out = k .out; reports = k .reports; answers = k .answers ++ (saidBy (refused n) ∷ []) }))
-after (did a rs w) k = some (record { market = w .market; out = k .out ++ w .out; reports = k .reports ++ rs; answers = k .answers ++ (saidBy (did a rs w) ∷ []) })
+after (refused n) k =
+    cond (eqb n 3) none
+    (some (record { market = k .market; out = k .out; reports = k .reports; answers = k .answers ++ (saidBy (refused n) ∷ []) }))
+after (did a rs w) k =
+    some (record { market = w .market; out = k .out ++ w .out; reports = k .reports ++ rs; answers = k .answers ++ (saidBy (did a rs w) ∷ []) })
 
 abbrev pub afterCall : Option Call → Ran → Option Ran
 afterCall none k = none

@@ -62,7 +62,8 @@ fn digits(n: usize, x: u64) -> [u64; 16]
 // Calls 2 to 4, a connection's messages.
 fn message(s: &mut [u64], out: &mut [u64], w: &[u64]) -> Step
     requires { ⌜ (Sound (now s)) × ((length (now w) ≡ 8) × ((2 ≤ getD (now w) 0 0) × (getD (now w) 0 0 ≤ 4))) ⌝ }
-    ensures { λ r. ⌜ ((q : List ℕ) → Calls (now (w .entry)) (lentAll (now (s .entry)) (now (out .entry)) q) (ofStep r) (lentAll (now (s .exit)) (now (out .exit)) q)) ⌝ }
+    ensures { λ r. ⌜ ((q : List ℕ) → Calls (now (w .entry))
+        (lentAll (now (s .entry)) (now (out .entry)) q) (ofStep r) (lentAll (now (s .exit)) (now (out .exit)) q)) ⌝ }
 {
     let number = w[0];
     let conn = w[1];
@@ -82,7 +83,8 @@ fn message(s: &mut [u64], out: &mut [u64], w: &[u64]) -> Step
 // Calls 5 and 6, a drop and a promote.
 fn lost(s: &mut [u64], out: &mut [u64], w: &[u64]) -> Lost
     requires { ⌜ (Sound (now s)) × ((length (now w) ≡ 8) × ((5 ≤ getD (now w) 0 0) × (getD (now w) 0 0 ≤ 6))) ⌝ }
-    ensures { λ r. ⌜ ((q : List ℕ) → Calls (now (w .entry)) (lentAll (now (s .entry)) (now (out .entry)) q) (ofLost r) (lentAll (now (s .exit)) (now (out .exit)) q)) ⌝ }
+    ensures { λ r. ⌜ ((q : List ℕ) → Calls (now (w .entry))
+        (lentAll (now (s .entry)) (now (out .entry)) q) (ofLost r) (lentAll (now (s .exit)) (now (out .exit)) q)) ⌝ }
 {
     let number = w[0];
     let t = w[6];
@@ -96,7 +98,9 @@ fn lost(s: &mut [u64], out: &mut [u64], w: &[u64]) -> Lost
 // Call 8, a tick.
 fn tick(s: &mut [u64], out: &mut [u64], reports: &mut [u64], w: &[u64]) -> Ticked
     requires { ⌜ (Sound (now s)) × ((length (now w) ≡ 8) × (getD (now w) 0 0 ≡ 8)) ⌝ }
-    ensures { λ r. ⌜ Calls (now (w .entry)) (lentAll (now (s .entry)) (now (out .entry)) (now (reports .entry))) (ofTicked r) (lentAll (now (s .exit)) (now (out .exit)) (now (reports .exit))) ⌝ }
+    ensures { λ r. ⌜ Calls (now (w .entry))
+        (lentAll (now (s .entry)) (now (out .entry)) (now (reports .entry))) (ofTicked r)
+        (lentAll (now (s .exit)) (now (out .exit)) (now (reports .exit))) ⌝ }
 {
     let lines = store::conns::count(s);
     let t = w[6];
@@ -139,7 +143,9 @@ fn first_six(s: &mut [u64], out: &mut [u64], w: &[u64]) -> Told
 // The call of eight words.
 fn call(s: &mut [u64], out: &mut [u64], reports: &mut [u64], w: &[u64]) -> Told
     requires { ⌜ (Sound (now s)) × (length (now w) ≡ 8) ⌝ }
-    ensures { λ r. ⌜ Does (now (w .entry)) (lentAll (now (s .entry)) (now (out .entry)) (now (reports .entry))) r (lentAll (now (s .exit)) (now (out .exit)) (now (reports .exit))) ⌝ }
+    ensures { λ r. ⌜ Does (now (w .entry))
+        (lentAll (now (s .entry)) (now (out .entry)) (now (reports .entry))) r
+        (lentAll (now (s .exit)) (now (out .exit)) (now (reports .exit))) ⌝ }
 {
     let number = w[0];
     if number < 7 {
@@ -176,7 +182,9 @@ fn turn(
     k: Counts,
 ) -> Counts
     requires { ⌜ TurnRoom (now w) (lists (now s) (now out) (now reports) (now answers)) k ⌝ }
-    ensures { λ r. ⌜ Turns (now (w .entry)) (lists (now (s .entry)) (now (out .entry)) (now (reports .entry)) (now (answers .entry))) k (lists (now (s .exit)) (now (out .exit)) (now (reports .exit)) (now (answers .exit))) r ⌝ }
+    ensures { λ r. ⌜ Turns (now (w .entry))
+        (lists (now (s .entry)) (now (out .entry)) (now (reports .entry)) (now (answers .entry))) k
+        (lists (now (s .exit)) (now (out .exit)) (now (reports .exit)) (now (answers .exit))) r ⌝ }
 {
     let a = 7 * k.records;
     let b = 3 * k.reports;
@@ -228,7 +236,10 @@ fn turns(
     calls: &[u64],
 ) -> Counts
     requires { ⌜ Sound (now s) ⌝ }
-    ensures { λ r. ⌜ Leaves (ran (now (calls .entry)) (lists (now (s .entry)) (now (out .entry)) (now (reports .entry)) (now (answers .entry)))) (lists (now (s .entry)) (now (out .entry)) (now (reports .entry)) (now (answers .entry))) (didSo r) (lists (now (s .exit)) (now (out .exit)) (now (reports .exit)) (now (answers .exit))) ⌝ }
+    ensures { λ r. ⌜ Leaves (ran (now (calls .entry))
+        (lists (now (s .entry)) (now (out .entry)) (now (reports .entry)) (now (answers .entry))))
+        (lists (now (s .entry)) (now (out .entry)) (now (reports .entry)) (now (answers .entry))) (didSo r)
+        (lists (now (s .exit)) (now (out .exit)) (now (reports .exit)) (now (answers .exit))) ⌝ }
 {
     let n = most(calls.len(), answers.len());
     let mut k = Counts {
@@ -257,7 +268,10 @@ pub fn run(
     calls: &[u64],
 ) -> Batched
     requires { ⌜ Sound (now s) ⌝ }
-    ensures { λ r. ⌜ Leaves (ran (now (calls .entry)) (lists (now (s .entry)) (now (out .entry)) (now (reports .entry)) (now (answers .entry)))) (lists (now (s .entry)) (now (out .entry)) (now (reports .entry)) (now (answers .entry))) r (lists (now (s .exit)) (now (out .exit)) (now (reports .exit)) (now (answers .exit))) ⌝ }
+    ensures { λ r. ⌜ Leaves (ran (now (calls .entry))
+        (lists (now (s .entry)) (now (out .entry)) (now (reports .entry)) (now (answers .entry))))
+        (lists (now (s .entry)) (now (out .entry)) (now (reports .entry)) (now (answers .entry))) r
+        (lists (now (s .exit)) (now (out .exit)) (now (reports .exit)) (now (answers .exit))) ⌝ }
 {
     let k = turns(s, out, reports, answers, calls);
     Batched::Did {
@@ -275,7 +289,9 @@ pub fn batch(
     answers: &mut [u64],
     calls: &[u64],
 ) -> Batched
-    ensures { λ r. ⌜ MeetsBatch (now (calls .entry)) (lists (now (s .entry)) (now (out .entry)) (now (reports .entry)) (now (answers .entry))) r (lists (now (s .exit)) (now (out .exit)) (now (reports .exit)) (now (answers .exit))) ⌝ }
+    ensures { λ r. ⌜ MeetsBatch (now (calls .entry))
+        (lists (now (s .entry)) (now (out .entry)) (now (reports .entry)) (now (answers .entry))) r
+        (lists (now (s .exit)) (now (out .exit)) (now (reports .exit)) (now (answers .exit))) ⌝ }
 {
     if sound::is_sound(s) {
         return run(s, out, reports, answers, calls);

@@ -23,7 +23,8 @@ pub fn subscribe(s: &mut [u64], conn: u64, t: u64) -> Changed
 
 // A connection sends a snapshot of a token, 0 or 1.
 pub fn snapshot(s: &mut [u64], out: &mut [u64], conn: u64, token: u64, message: u64, t: u64) -> Step
-    ensures { λ r. ⌜ Promise (ofCall (Snapshot conn token message t (records (now (out .entry))))) (lent (now (s .entry)) (now (out .entry))) (says (ofStep r)) (lent (now (s .exit)) (now (out .exit))) ⌝ }
+    ensures { λ r. ⌜ Promise (ofCall (Snapshot conn token message t (records (now (out .entry)))))
+        (lent (now (s .entry)) (now (out .entry))) (says (ofStep r)) (lent (now (s .exit)) (now (out .exit))) ⌝ }
 {
     if sound::is_sound(s) {
         return steps::snapshot(s, out, conn, token, message, t);
@@ -40,7 +41,8 @@ pub fn book_event(
     message: u64,
     t: u64,
 ) -> Step
-    ensures { λ r. ⌜ Promise (ofCall (BookEvent conn key message t (records (now (out .entry))))) (lent (now (s .entry)) (now (out .entry))) (says (ofStep r)) (lent (now (s .exit)) (now (out .exit))) ⌝ }
+    ensures { λ r. ⌜ Promise (ofCall (BookEvent conn key message t (records (now (out .entry)))))
+        (lent (now (s .entry)) (now (out .entry))) (says (ofStep r)) (lent (now (s .exit)) (now (out .exit))) ⌝ }
 {
     if sound::is_sound(s) {
         return steps::book_event(s, out, conn, key, message, t);
@@ -50,7 +52,8 @@ pub fn book_event(
 
 // A connection sends a print: any message that is neither a snapshot nor a book event.
 pub fn other(s: &mut [u64], out: &mut [u64], conn: u64, key: EventKey, message: u64, t: u64) -> Step
-    ensures { λ r. ⌜ Promise (ofCall (Print conn key message t (records (now (out .entry))))) (lent (now (s .entry)) (now (out .entry))) (says (ofStep r)) (lent (now (s .exit)) (now (out .exit))) ⌝ }
+    ensures { λ r. ⌜ Promise (ofCall (Print conn key message t (records (now (out .entry)))))
+        (lent (now (s .entry)) (now (out .entry))) (says (ofStep r)) (lent (now (s .exit)) (now (out .exit))) ⌝ }
 {
     if sound::is_sound(s) {
         return steps::other(s, out, conn, key, message, t);
@@ -60,7 +63,8 @@ pub fn other(s: &mut [u64], out: &mut [u64], conn: u64, key: EventKey, message: 
 
 // A connection is gone: its line goes, and if it was in line the others are promoted.
 pub fn drop_conn(s: &mut [u64], out: &mut [u64], conn: u64, t: u64) -> Lost
-    ensures { λ r. ⌜ Promise (ofCall (Drop conn t (records (now (out .entry))))) (lent (now (s .entry)) (now (out .entry))) (says (ofLost r)) (lent (now (s .exit)) (now (out .exit))) ⌝ }
+    ensures { λ r. ⌜ Promise (ofCall (Drop conn t (records (now (out .entry)))))
+        (lent (now (s .entry)) (now (out .entry))) (says (ofLost r)) (lent (now (s .exit)) (now (out .exit))) ⌝ }
 {
     if sound::is_sound(s) {
         return steps::drop_conn(s, out, conn, t);
@@ -70,7 +74,8 @@ pub fn drop_conn(s: &mut [u64], out: &mut [u64], conn: u64, t: u64) -> Lost
 
 // Where nobody is in line, the line with the best claim takes over.
 pub fn promote(s: &mut [u64], out: &mut [u64], t: u64) -> Lost
-    ensures { λ r. ⌜ Promise (ofCall (Promote t (records (now (out .entry))))) (lent (now (s .entry)) (now (out .entry))) (says (ofLost r)) (lent (now (s .exit)) (now (out .exit))) ⌝ }
+    ensures { λ r. ⌜ Promise (ofCall (Promote t (records (now (out .entry)))))
+        (lent (now (s .entry)) (now (out .entry))) (says (ofLost r)) (lent (now (s .exit)) (now (out .exit))) ⌝ }
 {
     if sound::is_sound(s) {
         return steps::promote(s, out, t);
@@ -90,7 +95,10 @@ pub fn reset(s: &mut [u64], t: u64) -> Changed
 
 // Time passes: old entries and print keys go, and each line has its turn.
 pub fn tick(s: &mut [u64], out: &mut [u64], reports: &mut [u64], answers: &[u64], t: u64) -> Ticked
-    ensures { λ r. ⌜ Promise (ofCall (Tick (now (answers .entry)) t (records (now (out .entry))) (reportRoom (now (reports .entry))))) (lentAll (now (s .entry)) (now (out .entry)) (now (reports .entry))) (says (ofTicked r)) (lentAll (now (s .exit)) (now (out .exit)) (now (reports .exit))) ⌝ }
+    ensures { λ r. ⌜ Promise
+        (ofCall (Tick (now (answers .entry)) t (records (now (out .entry))) (reportRoom (now (reports .entry)))))
+        (lentAll (now (s .entry)) (now (out .entry)) (now (reports .entry))) (says (ofTicked r))
+        (lentAll (now (s .exit)) (now (out .exit)) (now (reports .exit))) ⌝ }
 {
     if sound::is_sound(s) {
         return steps::tick(s, out, reports, answers, t);

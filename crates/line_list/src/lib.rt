@@ -19,7 +19,8 @@ ghost use Rattle.store.specs.ConnMoves.{Lined, LineAt};
 // The i-th line becomes Pending, empty, since t, unless it has failed.
 fn reset_at(s: &mut [u64], i: usize, t: u64)
     requires { ⌜ LineAt (now s) i ⌝ }
-    ensures { λ _. ⌜ Moved (now (s .entry)) (now (s .exit)) (setLine i (pendingAnew t ((connAt i (marketOf (now (s .entry)))) .line)) (marketOf (now (s .entry)))) ⌝ }
+    ensures { λ _. ⌜ Moved (now (s .entry)) (now (s .exit))
+        (setLine i (pendingAnew t ((connAt i (marketOf (now (s .entry)))) .line)) (marketOf (now (s .entry)))) ⌝ }
 {
     let line = store::conns::line_at(s, i);
     store::conns::set_line(s, i, line.reset(t));
@@ -41,7 +42,8 @@ pub fn reset(s: &mut [u64], t: u64)
 // The i-th line, if in line, becomes Pending, empty, since t.
 fn out_at(s: &mut [u64], i: usize, t: u64)
     requires { ⌜ LineAt (now s) i ⌝ }
-    ensures { λ _. ⌜ Moved (now (s .entry)) (now (s .exit)) (setLine i (outOfLine t ((connAt i (marketOf (now (s .entry)))) .line)) (marketOf (now (s .entry)))) ⌝ }
+    ensures { λ _. ⌜ Moved (now (s .entry)) (now (s .exit))
+        (setLine i (outOfLine t ((connAt i (marketOf (now (s .entry)))) .line)) (marketOf (now (s .entry)))) ⌝ }
 {
     let line = store::conns::line_at(s, i);
     store::conns::set_line(s, i, line.out_of_line(t));
@@ -63,7 +65,8 @@ pub fn out_of_line(s: &mut [u64], t: u64)
 // The connection's line goes.
 pub fn remove(s: &mut [u64], conn: u64)
     requires { ⌜ Sound (now s) ⌝ }
-    ensures { λ _. ⌜ Moved (now (s .entry)) (now (s .exit)) (withLines (keep (λ c. not (eqb (c .conn) conn)) (marketOf (now (s .entry)) .lines)) (marketOf (now (s .entry)))) ⌝ }
+    ensures { λ _. ⌜ Moved (now (s .entry)) (now (s .exit))
+        (withLines (keep (λ c. not (eqb (c .conn) conn)) (marketOf (now (s .entry)) .lines)) (marketOf (now (s .entry)))) ⌝ }
 {
     let n = store::conns::count(s);
     let i = store::conns::find(s, conn);
@@ -112,7 +115,8 @@ fn replace(s: &mut [u64], i: usize, t: u64)
 // The connection's line becomes Waiting, empty, since t; one that has no line gets one in its place by connection.
 pub fn subscribe(s: &mut [u64], conn: u64, t: u64)
     requires { ⌜ Sound (now s) ⌝ }
-    requires { ⌜ not (any (λ c. eqb (c .conn) conn) (marketOf (now s) .lines)) && leb (marketOf (now s) .limits .L) (length (marketOf (now s) .lines)) ≡ false ⌝ }
+    requires { ⌜ not (any (λ c. eqb (c .conn) conn) (marketOf (now s) .lines))
+        && leb (marketOf (now s) .limits .L) (length (marketOf (now s) .lines)) ≡ false ⌝ }
     ensures { λ _. ⌜ Moved (now (s .entry)) (now (s .exit)) (withLines (subscribed conn t (marketOf (now (s .entry)) .lines)) (marketOf (now (s .entry)))) ⌝ }
 {
     let i = place_of(s, conn);

@@ -1,8 +1,7 @@
 -- When an area is one of a sound store.
-use mathlib.Core.Path.{_≡_}
 use mathlib.Core.List.{List}
 use Prim.Native.Nat.{ℕ, _≤_}
-use lib.ListN.{length, getD}
+use lib.ListN.{getD}
 use Rattle.rules.specs.declared.Limits.{Limits}
 use Rattle.rules.specs.Lines as Rules
 use Rattle.rules.specs.Sound.{LineSound}

@@ -205,7 +205,8 @@ impl Line {
     // With one item more behind those that it holds.
     pub fn more(self) -> Line
         requires { ⌜ heldOf self < maxNumber ⌝ }
-        ensures { λ r. ⌜ ((v w : List ℕ) (item : Item) → itemsIn (heldOf self + 1) v ≡ itemsIn (heldOf self) w ++ (item ∷ []) → lineOf r v ≡ holding item (lineOf self w)) ⌝ }
+        ensures { λ r. ⌜ ((v w : List ℕ) (item : Item) → itemsIn (heldOf self + 1) v ≡ itemsIn (heldOf self) w ++ (item ∷ [])
+            → lineOf r v ≡ holding item (lineOf self w)) ⌝ }
     {
         match self {
             Line::Waiting { items, since } => Line::Waiting {

@@ -112,7 +112,8 @@ impl Line {
 
 // A book event to a Waiting line.
 fn hold_waiting(items: usize, since: u64, h: usize) -> Stepped
-    ensures { λ r. ⌜ ((base : ℕ) (ks : List Key) (k : Key) (w : List ℕ) (msg : ℕ) → Steps r (eventStep h base ks k msg (Rules.Waiting (itemsIn items w) since))) ⌝ }
+    ensures { λ r. ⌜ ((base : ℕ) (ks : List Key) (k : Key) (w : List ℕ) (msg : ℕ)
+        → Steps r (eventStep h base ks k msg (Rules.Waiting (itemsIn items w) since))) ⌝ }
 {
     if h <= items {
         return Stepped {
@@ -131,7 +132,8 @@ fn hold_waiting(items: usize, since: u64, h: usize) -> Stepped
 
 // A book event to a pending line.
 fn hold_pending(held: usize, snapshot: Stamp, since: u64, h: usize) -> Stepped
-    ensures { λ r. ⌜ ((base : ℕ) (ks : List Key) (k : Key) (w : List ℕ) (msg : ℕ) → Steps r (eventStep h base ks k msg (Rules.Pending (itemsIn held w) snapshot since))) ⌝ }
+    ensures { λ r. ⌜ ((base : ℕ) (ks : List Key) (k : Key) (w : List ℕ) (msg : ℕ)
+        → Steps r (eventStep h base ks k msg (Rules.Pending (itemsIn held w) snapshot since))) ⌝ }
 {
     if h <= held {
         return Stepped {

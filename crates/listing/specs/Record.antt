@@ -1,6 +1,6 @@
 -- 01, Keys and the program: a record of 44 bytes, little-endian: mark, call byte, connection, key, message, time, index byte.
 use mathlib.Core.List.{List}
-use mathlib.Core.Bool.{cond, _&&_}
+use mathlib.Core.Bool.{cond}
 use Prim.Native.Nat.{ℕ}
 use lib.Dec.{ltb, eqb}
 use lib.ListN.{length, take, drop, getD}

@@ -191,7 +191,8 @@ fn put_report_kind(text: &mut [u8], n: usize, kind: u64) -> usize
 // The line of a report of three words, and the lines of its records.
 fn put_report(text: &mut [u8], n: usize, row: &[u64], records: &[u64]) -> usize
     requires { ⌜ (n + 29 + 19 * length (now records) ≤ length (now text)) × (length (now row) ≡ 3) ⌝ }
-    ensures { λ r. ⌜ (Wrote n (reportText (now (row .entry)) (now (records .entry))) (now (text .entry)) (now (text .exit)) r) × (r ≤ n + 29 + 19 * length (now (records .entry))) ⌝ }
+    ensures { λ r. ⌜ (Wrote n (reportText (now (row .entry)) (now (records .entry))) (now (text .entry)) (now (text .exit)) r)
+        × (r ≤ n + 29 + 19 * length (now (records .entry))) ⌝ }
 {
     let a = put_report_kind(text, n, row[0]);
     let b = put_number(text, a, row[1], b'\n');
@@ -233,7 +234,8 @@ fn reports_end(reports: &[u64], count: usize) -> usize
 // What a tick answered.
 pub fn put_ticked(text: &mut [u8], n: usize, ticked: Ticked, reports: &[u64], out: &[u64]) -> usize
     requires { ⌜ n + 29 + 10 * length (now reports) + 19 * length (now out) ≤ length (now text) ⌝ }
-    ensures { λ r. ⌜ (Wrote n (tickedText ticked (now (reports .entry)) (now (out .entry))) (now (text .entry)) (now (text .exit)) r) × (r ≤ length (now (text .exit))) ⌝ }
+    ensures { λ r. ⌜ (Wrote n (tickedText ticked (now (reports .entry)) (now (out .entry))) (now (text .entry)) (now (text .exit)) r)
+        × (r ≤ length (now (text .exit))) ⌝ }
 {
     match ticked {
         Ticked::Done { reports: count, .. } => {

@@ -12,7 +12,8 @@ use rules::Stamp;
 pub fn push(area: &mut [u64], g: usize, head: &mut Head, key: EventKey, t: u64)
     requires { ⌜ (Fit g (now area) (now head)) × (now head .count < g) ⌝ }
     ensures { λ _. ⌜ logOf g (now (area .exit)) (now (head .exit)) ≡ push key t (logOf g (now (area .entry)) (now (head .entry))) ⌝ }
-    ensures { λ _. ⌜ (Fit g (now (area .exit)) (now (head .exit))) × ((now (head .exit) .base ≡ now (head .entry) .base) × (now (head .exit) .count ≡ now (head .entry) .count + 1)) ⌝ }
+    ensures { λ _. ⌜ (Fit g (now (area .exit)) (now (head .exit)))
+        × ((now (head .exit) .base ≡ now (head .entry) .base) × (now (head .exit) .count ≡ now (head .entry) .count + 1)) ⌝ }
 {
     let n = head.count;
     log::put(area, g, n, key, t);

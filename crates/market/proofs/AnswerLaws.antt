@@ -1,7 +1,7 @@
 -- From what was done on the words to what a call answers and leaves.
 use mathlib.Core.Path.{_≡_, refl, sym, ap, _∙_, subst}
 use mathlib.Core.List.{List, []}
-use Prim.Native.Nat.{ℕ, _*_, _≤_}
+use Prim.Native.Nat.{ℕ, _+_, _*_, _≤_}
 use native.Mathlib.Omega.{arith}
 use lib.ListN.{length}
 use Rattle.rules.specs.declared.Applied.{Applied}
@@ -41,6 +41,10 @@ pub ready-begin : {w v : List ℕ} → Roomy w v → Ready w v 0
 ready-begin {w} r =
     let s = subst (λ (l : Limits). SoundW (roomFor l) (begin (marketOf w))) (market-limits w) (begin-sound (marketOf w) (r .sound .market)) in
     let a = s .spent in let h = r .room in record { sound = r .sound; room = omega arith }
+
+-- the output takes a record
+pub room-one : {w v : List ℕ} → Roomy w v → 7 * 0 + 7 ≤ length v
+room-one r = omega (arith, r .room)
 
 -- a move on the store alone leaves a roomy store, if the market is sound
 pub roomy-then : {w v w₁ : List ℕ} {m : Market} → Roomy w v → Moved w w₁ m → m .limits ≡ limitsOf w → Rules.Sound m → Roomy w₁ v

@@ -39,7 +39,8 @@ pub fn servable(s: &[u64]) -> bool
 // Writes a pending line's messages to the front of a list; how many there are.
 pub fn view(s: &[u64], conn: u64, list: &mut [u64]) -> usize
     requires { ⌜ (Sound (now s)) × (areaItems (limitsOf (now s)) ≤ length (now list)) ⌝ }
-    ensures { λ r. ⌜ (r ≡ length (Rules.messages conn (marketOf (now (s .entry))))) × (now (list .exit) ≡ over (Rules.messages conn (marketOf (now (s .entry)))) (now (list .entry))) ⌝ }
+    ensures { λ r. ⌜ (r ≡ length (Rules.messages conn (marketOf (now (s .entry)))))
+        × (now (list .exit) ≡ over (Rules.messages conn (marketOf (now (s .entry)))) (now (list .entry))) ⌝ }
 {
     let lines = store::conns::count(s);
     let i = store::conns::find(s, conn);

@@ -84,7 +84,8 @@ fn source(s: &[u64]) -> Source
 // Where nobody is in line, the line with the best claim takes over an emptied log.
 pub fn promote(s: &mut [u64], out: &mut [u64], t: u64) -> Lost
     requires { ⌜ Roomy (now s) (now out) ⌝ }
-    ensures { λ r. ⌜ Answers (Rules.promote t (marketOf (now (s .entry)))) (lent (now (s .entry)) (now (out .entry))) (ofLost r) (lent (now (s .exit)) (now (out .exit))) ⌝ }
+    ensures { λ r. ⌜ Answers (Rules.promote t (marketOf (now (s .entry))))
+        (lent (now (s .entry)) (now (out .entry))) (ofLost r) (lent (now (s .exit)) (now (out .exit))) ⌝ }
 {
     if store::conns::any_in_line(s) {
         return Lost::Kept;
@@ -104,7 +105,8 @@ pub fn promote(s: &mut [u64], out: &mut [u64], t: u64) -> Lost
 // The connection's line goes; if it was in line, the others are promoted.
 pub fn drop_conn(s: &mut [u64], out: &mut [u64], conn: u64, t: u64) -> Lost
     requires { ⌜ Roomy (now s) (now out) ⌝ }
-    ensures { λ r. ⌜ Answers (Rules.dropConn conn t (marketOf (now (s .entry)))) (lent (now (s .entry)) (now (out .entry))) (ofLost r) (lent (now (s .exit)) (now (out .exit))) ⌝ }
+    ensures { λ r. ⌜ Answers (Rules.dropConn conn t (marketOf (now (s .entry))))
+        (lent (now (s .entry)) (now (out .entry))) (ofLost r) (lent (now (s .exit)) (now (out .exit))) ⌝ }
 {
     let led = crate::asking::in_line(s, conn);
     line_list::remove(s, conn);

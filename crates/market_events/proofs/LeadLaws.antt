@@ -31,10 +31,9 @@ use Rattle.store.proofs.EntryLaws.{counts}
 use Rattle.moves.specs.Does.{Goes, Does, Ready, PushRoom}
 use Rattle.moves.proofs.DoesLaws.{goes-then, goes-is, does-market}
 use Rattle.market.specs.Lent.{lent, Answers, Roomy}
-use Rattle.market.proofs.AnswerLaws.{ready-at, refuses, answered}
+use Rattle.market.proofs.AnswerLaws.{ready-at, refuses, answered, room-one}
 use Rattle.market_snapshots.specs.Snapshots.{fullness}
 use Rattle.market_snapshots.proofs.SnapshotLaws.{log-room, numbers-room, not-full, if-full, line-here, line-sound}
-use Rattle.market_snapshots.proofs.DueLaws.{room-one}
 use Rattle.market_events.specs.Events.{stepAt, eventAt, Becomes}
 use Rattle.market_events.proofs.StepLaws.{step-leads}
 use Rattle.market_events.proofs.EventLaws.{book-by, book-sound}

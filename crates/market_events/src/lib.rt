@@ -27,7 +27,8 @@ fn step_of(s: &[u64], i: usize, key: EventKey) -> Stepped
 // A pending line that holds one event more tries to line up.
 fn pending_event(s: &mut [u64], out: &mut [u64], i: usize, t: u64) -> Step
     requires { ⌜ (Roomy (now s) (now out)) × (i < lineCount (now s)) ⌝ }
-    ensures { λ r. ⌜ Answers (lineUpAnswers i t (marketOf (now (s .entry)))) (lent (now (s .entry)) (now (out .entry))) (ofStep r) (lent (now (s .exit)) (now (out .exit))) ⌝ }
+    ensures { λ r. ⌜ Answers (lineUpAnswers i t (marketOf (now (s .entry))))
+        (lent (now (s .entry)) (now (out .entry))) (ofStep r) (lent (now (s .exit)) (now (out .exit))) ⌝ }
 {
     let n = market_snapshots::released(s, out, i, t);
     if n == 0 {
@@ -50,7 +51,8 @@ fn held_event(
     t: u64,
 ) -> Step
     requires { ⌜ (Roomy (now s) (now out)) × (Becomes (now s) i key message line (word held 0 0)) ⌝ }
-    ensures { λ r. ⌜ Answers (eventAt i key message t (marketOf (now (s .entry)))) (lent (now (s .entry)) (now (out .entry))) (ofStep r) (lent (now (s .exit)) (now (out .exit))) ⌝ }
+    ensures { λ r. ⌜ Answers (eventAt i key message t (marketOf (now (s .entry))))
+        (lent (now (s .entry)) (now (out .entry))) (ofStep r) (lent (now (s .exit)) (now (out .exit))) ⌝ }
 {
     let full = market_snapshots::full(s);
     if full != 0 {
@@ -74,7 +76,8 @@ fn new_event(
     t: u64,
 ) -> Step
     requires { ⌜ (Roomy (now s) (now out)) × (Becomes (now s) i key message line (word apply 1 0)) ⌝ }
-    ensures { λ r. ⌜ Answers (eventAt i key message t (marketOf (now (s .entry)))) (lent (now (s .entry)) (now (out .entry))) (ofStep r) (lent (now (s .exit)) (now (out .exit))) ⌝ }
+    ensures { λ r. ⌜ Answers (eventAt i key message t (marketOf (now (s .entry))))
+        (lent (now (s .entry)) (now (out .entry))) (ofStep r) (lent (now (s .exit)) (now (out .exit))) ⌝ }
 {
     let full = market_snapshots::full(s);
     if full != 0 {
@@ -97,7 +100,9 @@ pub fn book_event(
     t: u64,
 ) -> Step
     requires { ⌜ Roomy (now s) (now out) ⌝ }
-    ensures { λ r. ⌜ Answers (Rules.bookEvent (lineOf conn (marketOf (now (s .entry)))) key message t (marketOf (now (s .entry))) (lineFor conn (marketOf (now (s .entry))))) (lent (now (s .entry)) (now (out .entry))) (ofStep r) (lent (now (s .exit)) (now (out .exit))) ⌝ }
+    ensures { λ r. ⌜ Answers (Rules.bookEvent (lineOf conn (marketOf (now (s .entry)))) key message t (marketOf (now (s .entry)))
+        (lineFor conn (marketOf (now (s .entry)))))
+        (lent (now (s .entry)) (now (out .entry))) (ofStep r) (lent (now (s .exit)) (now (out .exit))) ⌝ }
 {
     let lines = store::conns::count(s);
     let i = store::conns::find(s, conn);

@@ -103,9 +103,6 @@ dropped-at {w} {w₁} {i} s h a = line-at-kept w w₁ i _ a i (fits-sound w s i 
 
 -- ---- put out
 
-pub record-room : {w v : List ℕ} → Roomy w v → 7 * 0 + 7 ≤ length v
-record-room r = let h = r .room in omega arith
-
 put-safe : (c : ℕ) (k : Key) (msg d a : ℕ) (m : Market) → d ≤ maxCount → Rules.Sound m → Safe (m .limits) (putPrint c k msg d a m)
 put-safe c k msg d a m h s = (
   record {

@@ -19,7 +19,8 @@ ghost use Rattle.market_prints.specs.Put.{putPrint};
 // A print is held once for each line; one too many and the line fails.
 fn hold(s: &mut [u64], i: usize, key: EventKey, message: u64) -> Step
     requires { ⌜ (Sound (now s)) × ((i < lineCount (now s)) × (NotFailed (now s) i)) ⌝ }
-    ensures { λ r. ⌜ ((v : List ℕ) → Answers (Rules.holdPrint i key message (marketOf (now (s .entry)))) (lent (now (s .entry)) v) (ofStep r) (lent (now (s .exit)) v)) ⌝ }
+    ensures { λ r. ⌜ ((v : List ℕ) → Answers (Rules.holdPrint i key message (marketOf (now (s .entry))))
+        (lent (now (s .entry)) v) (ofStep r) (lent (now (s .exit)) v)) ⌝ }
 {
     if store::conns::holds_print(s, i, key) {
         return Step::Held;
@@ -45,7 +46,8 @@ fn put_print(
     applied: u64,
 ) -> Step
     requires { ⌜ (Roomy (now s) (now out)) × ((applied < delivered) × (delivered ≤ maxCount)) ⌝ }
-    ensures { λ r. ⌜ Answers (putPrint conn key message delivered applied (marketOf (now (s .entry)))) (lent (now (s .entry)) (now (out .entry))) (ofStep r) (lent (now (s .exit)) (now (out .exit))) ⌝ }
+    ensures { λ r. ⌜ Answers (putPrint conn key message delivered applied (marketOf (now (s .entry))))
+        (lent (now (s .entry)) (now (out .entry))) (ofStep r) (lent (now (s .exit)) (now (out .exit))) ⌝ }
 {
     store::tables::apply(s, key, delivered);
     let record = Applied {
@@ -72,7 +74,9 @@ fn counted(
     applied: u64,
 ) -> Step
     requires { ⌜ (Roomy (now s) (now out)) × ((i < lineCount (now s)) × ((NotFailed (now s) i) × (delivered ≤ maxCount))) ⌝ }
-    ensures { λ r. ⌜ Answers (Rules.printCounted i conn key message delivered applied (marketOf (now (s .entry))) ((connAt i (marketOf (now (s .entry)))) .line)) (lent (now (s .entry)) (now (out .entry))) (ofStep r) (lent (now (s .exit)) (now (out .exit))) ⌝ }
+    ensures { λ r. ⌜ Answers (Rules.printCounted i conn key message delivered applied (marketOf (now (s .entry)))
+        ((connAt i (marketOf (now (s .entry)))) .line))
+        (lent (now (s .entry)) (now (out .entry))) (ofStep r) (lent (now (s .exit)) (now (out .exit))) ⌝ }
 {
     if delivered <= applied {
         return Step::Duplicate;
@@ -94,7 +98,8 @@ fn deliver(
     t: u64,
 ) -> Step
     requires { ⌜ (Roomy (now s) (now out)) × ((i < lineCount (now s)) × ((NotFailed (now s) i) × (i ≡ lineOf conn (marketOf (now s))))) ⌝ }
-    ensures { λ r. ⌜ Answers (Rules.print conn key message t (marketOf (now (s .entry)))) (lent (now (s .entry)) (now (out .entry))) (ofStep r) (lent (now (s .exit)) (now (out .exit))) ⌝ }
+    ensures { λ r. ⌜ Answers (Rules.print conn key message t (marketOf (now (s .entry))))
+        (lent (now (s .entry)) (now (out .entry))) (ofStep r) (lent (now (s .exit)) (now (out .exit))) ⌝ }
 {
     if store::tables::no_row(s, key, conn) {
         return Step::Refused(7);
@@ -111,7 +116,8 @@ fn deliver(
 // A print by a connection.
 pub fn other(s: &mut [u64], out: &mut [u64], conn: u64, key: EventKey, message: u64, t: u64) -> Step
     requires { ⌜ Roomy (now s) (now out) ⌝ }
-    ensures { λ r. ⌜ Answers (Rules.print conn key message t (marketOf (now (s .entry)))) (lent (now (s .entry)) (now (out .entry))) (ofStep r) (lent (now (s .exit)) (now (out .exit))) ⌝ }
+    ensures { λ r. ⌜ Answers (Rules.print conn key message t (marketOf (now (s .entry))))
+        (lent (now (s .entry)) (now (out .entry))) (ofStep r) (lent (now (s .exit)) (now (out .exit))) ⌝ }
 {
     let lines = store::conns::count(s);
     let i = store::conns::find(s, conn);

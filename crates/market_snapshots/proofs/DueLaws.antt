@@ -1,7 +1,7 @@
 -- Laws of a snapshot that was due to a line.
 use mathlib.Core.Path.{_≡_, refl, sym, ap, subst}
 use mathlib.Core.List.{List, [], _∷_}
-use Prim.Native.Nat.{ℕ, _+_, _*_, _≤_}
+use Prim.Native.Nat.{ℕ}
 use native.Mathlib.Omega.{arith}
 use lib.ListN.{length}
 use Rattle.rules.specs.declared.Item.the-variants as Item
@@ -28,9 +28,6 @@ use Rattle.market.specs.Lent.{lent, Answers, Roomy}
 use Rattle.market.proofs.AnswerLaws.{ready-at, goes-just, answered}
 use Rattle.market_snapshots.specs.Snapshots.{Fits}
 use Rattle.market_snapshots.proofs.SnapshotLaws.{line-here, held-fits}
-
-pub room-one : {w v : List ℕ} → Roomy w v → 7 * 0 + 7 ≤ length v
-room-one r = omega (arith, r .room)
 
 -- the i-th line became the one that it fits, and the snapshot is put out
 module _ {w v : List ℕ} {i : ℕ} {line : Line} (message t : ℕ) (r : Roomy w v) (p : Fits w i line) where

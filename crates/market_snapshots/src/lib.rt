@@ -45,7 +45,9 @@ fn step_of(s: &[u64], i: usize, token: u64) -> Stepped
 // A snapshot that was due to the i-th line, which becomes `line`: put out, and the pending lines are tried.
 fn due_snapshot(s: &mut [u64], out: &mut [u64], i: usize, line: Line, message: u64, t: u64) -> Step
     requires { ⌜ (Roomy (now s) (now out)) × (Fits (now s) i line) ⌝ }
-    ensures { λ r. ⌜ Answers (afterSnapshot i message t (marketOf (now (s .entry))) (Lines.lineOf line (itemsAt (now (s .entry)) i), word apply 1 0)) (lent (now (s .entry)) (now (out .entry))) (ofStep r) (lent (now (s .exit)) (now (out .exit))) ⌝ }
+    ensures { λ r. ⌜ Answers (afterSnapshot i message t (marketOf (now (s .entry)))
+        (Lines.lineOf line (itemsAt (now (s .entry)) i), word apply 1 0))
+        (lent (now (s .entry)) (now (out .entry))) (ofStep r) (lent (now (s .exit)) (now (out .exit))) ⌝ }
 {
     let conn = store::conns::conn_at(s, i);
     store::conns::set_line(s, i, line);
@@ -69,7 +71,8 @@ pub fn released(s: &mut [u64], out: &mut [u64], i: usize, t: u64) -> usize
 // A line that holds a snapshot more, while another is in line: with both tokens it becomes Pending and tries to line up.
 fn complete_snapshot(s: &mut [u64], out: &mut [u64], i: usize, t: u64) -> Step
     requires { ⌜ (Roomy (now s) (now out)) × (i < lineCount (now s)) ⌝ }
-    ensures { λ r. ⌜ Answers (completed i t (marketOf (now (s .entry)))) (lent (now (s .entry)) (now (out .entry))) (ofStep r) (lent (now (s .exit)) (now (out .exit))) ⌝ }
+    ensures { λ r. ⌜ Answers (completed i t (marketOf (now (s .entry))))
+        (lent (now (s .entry)) (now (out .entry))) (ofStep r) (lent (now (s .exit)) (now (out .exit))) ⌝ }
 {
     let line = store::conns::line_at(s, i);
     if line.holds_snapshots(store::conns::items(s, i)) {
@@ -87,7 +90,8 @@ fn complete_snapshot(s: &mut [u64], out: &mut [u64], i: usize, t: u64) -> Step
 fn held_snapshot(s: &mut [u64], out: &mut [u64], i: usize, token: u64, message: u64, t: u64) -> Step
     requires { ⌜ (Roomy (now s) (now out)) × (i < lineCount (now s)) ⌝ }
     requires { ⌜ (token ≤ 1) × (stepAt i token message (marketOf (now s)) .1 ≡ word held 0 0) ⌝ }
-    ensures { λ r. ⌜ Answers (snapshotAt i token message t (marketOf (now (s .entry)))) (lent (now (s .entry)) (now (out .entry))) (ofStep r) (lent (now (s .exit)) (now (out .exit))) ⌝ }
+    ensures { λ r. ⌜ Answers (snapshotAt i token message t (marketOf (now (s .entry))))
+        (lent (now (s .entry)) (now (out .entry))) (ofStep r) (lent (now (s .exit)) (now (out .exit))) ⌝ }
 {
     let full = full(s);
     if full != 0 {
@@ -105,7 +109,9 @@ fn held_snapshot(s: &mut [u64], out: &mut [u64], i: usize, token: u64, message: 
 // A snapshot of a token by a connection.
 pub fn snapshot(s: &mut [u64], out: &mut [u64], conn: u64, token: u64, message: u64, t: u64) -> Step
     requires { ⌜ (Roomy (now s) (now out)) × (token ≤ 1) ⌝ }
-    ensures { λ r. ⌜ Answers (Rules.snapshot (lineOf conn (marketOf (now (s .entry)))) token message t (marketOf (now (s .entry))) (lineFor conn (marketOf (now (s .entry))))) (lent (now (s .entry)) (now (out .entry))) (ofStep r) (lent (now (s .exit)) (now (out .exit))) ⌝ }
+    ensures { λ r. ⌜ Answers (Rules.snapshot (lineOf conn (marketOf (now (s .entry)))) token message t (marketOf (now (s .entry)))
+        (lineFor conn (marketOf (now (s .entry)))))
+        (lent (now (s .entry)) (now (out .entry))) (ofStep r) (lent (now (s .exit)) (now (out .exit))) ⌝ }
 {
     let lines = store::conns::count(s);
     let i = store::conns::find(s, conn);

@@ -41,6 +41,7 @@ use Rattle.moves.specs.Does.{Goes, Does, Ready}
 use Rattle.market_tick.specs.Turns.{Reported, Taken, Makes, Turns, Pends, AlignedReport, alignedBy, wayOf}
 use Rattle.market_tick.proofs.TimeLaws.{step, step-is, step-line, pair-is, byWay, turn-is}
 use Rattle.moves.proofs.DoesLaws.{does-then, does-none, does-market, ready-then}
+use Rattle.moves.proofs.LineUpLaws.{pending-stays}
 
 -- ---- reports
 
@@ -104,14 +105,8 @@ fails-done {u} {u₁} {u₂} {q} {q₁} t {i} {conn} {m} {line} f h c a b r v k 
 
 -- ---- a pending line
 
-pending-unfailed : (l : Line) → isPending l ≡ true → isFailed l ≡ false
-pending-unfailed (Waiting is since) e = refl
-pending-unfailed (Pending is at since) e = refl
-pending-unfailed (InLine n a b) e = refl
-pending-unfailed Failed e = absurd (ff≢tt refl e)
-
 pub pends-unfailed : (u : List ℕ) (i : ℕ) → Pends u i → NotFailed u i
-pends-unfailed u i p = pending-unfailed ((connAt i (marketOf u)) .line) p
+pends-unfailed u i p = pending-stays ((connAt i (marketOf u)) .line) p
 
 -- ---- all leave line
 

@@ -83,7 +83,8 @@ fn rebuild_from(
     t: u64,
 ) -> Turned
     requires { ⌜ (TurnRoom (now s) (now out) (now reports) k i) × (Pends (now s) i) ⌝ }
-    ensures { λ r. ⌜ Turns (rebuildFrom i (itemsOf ((connAt i (marketOf (now (s .entry)))) .line)) t) (now (s .entry)) (now (out .entry)) (now (reports .entry)) k (now (s .exit)) (now (out .exit)) (now (reports .exit)) r ⌝ }
+    ensures { λ r. ⌜ Turns (rebuildFrom i (itemsOf ((connAt i (marketOf (now (s .entry)))) .line)) t)
+        (now (s .entry)) (now (out .entry)) (now (reports .entry)) k (now (s .exit)) (now (out .exit)) (now (reports .exit)) r ⌝ }
 {
     let conn = store::conns::conn_at(s, i);
     store::entries::clear_log(s);
@@ -101,7 +102,8 @@ fn rebuild_from(
 // Time passes for the i-th line: it stays, it fails, or the market is rebuilt from it.
 fn ages(s: &mut [u64], out: &mut [u64], reports: &mut [u64], k: Turned, i: usize, t: u64) -> Turned
     requires { ⌜ TurnRoom (now s) (now out) (now reports) k i ⌝ }
-    ensures { λ r. ⌜ Turns (λ w. aged i t w ((connAt i (marketOf (now (s .entry)))) .line)) (now (s .entry)) (now (out .entry)) (now (reports .entry)) k (now (s .exit)) (now (out .exit)) (now (reports .exit)) r ⌝ }
+    ensures { λ r. ⌜ Turns (λ w. aged i t w ((connAt i (marketOf (now (s .entry)))) .line))
+        (now (s .entry)) (now (out .entry)) (now (reports .entry)) k (now (s .exit)) (now (out .exit)) (now (reports .exit)) r ⌝ }
 {
     let base = store::entries::base(s);
     let aged = store::conns::line_at(s, i).time(base, t);
@@ -153,7 +155,8 @@ fn quietly(s: &[u64], i: usize, same: bool, t: u64) -> bool
 // The i-th line lines up quietly; without events it enters at the end.
 fn quiet_line_up(s: &mut [u64], out: &mut [u64], n: usize, i: usize, t: u64) -> usize
     requires { ⌜ (Ready (now s) (now out) n) × ((i < lineCount (now s)) × (NotFailed (now s) i)) ⌝ }
-    ensures { λ r. ⌜ Does (quietLineUp i t (itemsOf ((connAt i (marketOf (now (s .entry)))) .line))) (now (s .entry)) (now (out .entry)) n (now (s .exit)) (now (out .exit)) r ⌝ }
+    ensures { λ r. ⌜ Does (quietLineUp i t (itemsOf ((connAt i (marketOf (now (s .entry)))) .line)))
+        (now (s .entry)) (now (out .entry)) n (now (s .exit)) (now (out .exit)) r ⌝ }
 {
     if moves::reads::events_held(s, i) == 0 {
         let end = store::entries::end(s);
@@ -165,7 +168,8 @@ fn quiet_line_up(s: &mut [u64], out: &mut [u64], n: usize, i: usize, t: u64) -> 
 // The i-th line lines up, if it can, then the others do.
 fn align(s: &mut [u64], out: &mut [u64], reports: &mut [u64], k: Turned, i: usize, t: u64) -> Turned
     requires { ⌜ TurnRoom (now s) (now out) (now reports) k i ⌝ }
-    ensures { λ r. ⌜ Turns (alignedBy i (λ w. sweep t (tryLineUp false i t w))) (now (s .entry)) (now (out .entry)) (now (reports .entry)) k (now (s .exit)) (now (out .exit)) (now (reports .exit)) r ⌝ }
+    ensures { λ r. ⌜ Turns (alignedBy i (λ w. sweep t (tryLineUp false i t w)))
+        (now (s .entry)) (now (out .entry)) (now (reports .entry)) k (now (s .exit)) (now (out .exit)) (now (reports .exit)) r ⌝ }
 {
     let conn = store::conns::conn_at(s, i);
     let lined = moves::lining_up::try_align(s, out, k.n, i, t, false);
@@ -183,7 +187,8 @@ fn align_quietly(
     t: u64,
 ) -> Turned
     requires { ⌜ (TurnRoom (now s) (now out) (now reports) k i) × (Pends (now s) i) ⌝ }
-    ensures { λ r. ⌜ Turns (alignedBy i (quietLineUp i t (itemsOf ((connAt i (marketOf (now (s .entry)))) .line)))) (now (s .entry)) (now (out .entry)) (now (reports .entry)) k (now (s .exit)) (now (out .exit)) (now (reports .exit)) r ⌝ }
+    ensures { λ r. ⌜ Turns (alignedBy i (quietLineUp i t (itemsOf ((connAt i (marketOf (now (s .entry)))) .line))))
+        (now (s .entry)) (now (out .entry)) (now (reports .entry)) k (now (s .exit)) (now (out .exit)) (now (reports .exit)) r ⌝ }
 {
     let conn = store::conns::conn_at(s, i);
     let n = quiet_line_up(s, out, k.n, i, t);
@@ -235,7 +240,8 @@ fn turn(
     t: u64,
 ) -> Turned
     requires { ⌜ TurnRoom (now s) (now out) (now reports) k i ⌝ }
-    ensures { λ r. ⌜ Turns (λ w. Rules.turn i due same t w ((connAt i (marketOf (now (s .entry)))) .line)) (now (s .entry)) (now (out .entry)) (now (reports .entry)) k (now (s .exit)) (now (out .exit)) (now (reports .exit)) r ⌝ }
+    ensures { λ r. ⌜ Turns (λ w. Rules.turn i due same t w ((connAt i (marketOf (now (s .entry)))) .line))
+        (now (s .entry)) (now (out .entry)) (now (reports .entry)) k (now (s .exit)) (now (out .exit)) (now (reports .exit)) r ⌝ }
 {
     let way = way_of(s, i, due, same, t);
     match way {
@@ -255,7 +261,8 @@ fn turns(
     t: u64,
 ) -> Turned
     requires { ⌜ (Ready (now s) (now out) 0) × ((3 * limitsOf (now s) .L ≤ length (now reports)) × (length (now answers) ≡ lineCount (now s))) ⌝ }
-    ensures { λ r. ⌜ TurnsEnd due (now (answers .entry)) t (now (s .entry)) (now (out .entry)) (now (reports .entry)) (now (s .exit)) (now (out .exit)) (now (reports .exit)) r ⌝ }
+    ensures { λ r. ⌜ TurnsEnd due (now (answers .entry)) t
+        (now (s .entry)) (now (out .entry)) (now (reports .entry)) (now (s .exit)) (now (out .exit)) (now (reports .exit)) r ⌝ }
 {
     let lines = store::conns::count(s);
     let mut k = Turned {
@@ -278,7 +285,9 @@ fn turns(
 // A tick: old log entries and print keys go, then each line has its turn.
 pub fn tick(s: &mut [u64], out: &mut [u64], reports: &mut [u64], answers: &[u64], t: u64) -> Ticked
     requires { ⌜ (Roomy (now s) (now out)) × ((3 * limitsOf (now s) .L ≤ length (now reports)) × (length (now answers) ≡ lineCount (now s))) ⌝ }
-    ensures { λ r. ⌜ Answers (Rules.tick (now (answers .entry)) t (marketOf (now (s .entry)))) (lentAll (now (s .entry)) (now (out .entry)) (now (reports .entry))) (ofTicked r) (lentAll (now (s .exit)) (now (out .exit)) (now (reports .exit))) ⌝ }
+    ensures { λ r. ⌜ Answers (Rules.tick (now (answers .entry)) t (marketOf (now (s .entry))))
+        (lentAll (now (s .entry)) (now (out .entry)) (now (reports .entry))) (ofTicked r)
+        (lentAll (now (s .exit)) (now (out .exit)) (now (reports .exit))) ⌝ }
 {
     let due = store::conns::some_due(s);
     store::entries::prune(s, t);

@@ -23,9 +23,10 @@ use Rattle.moves.specs.Does.{Does, Ready, EnterRoom}
 use Rattle.moves.specs.Places.{AtPlace}
 use Rattle.moves.proofs.DoesLaws.{does-as, does-then}
 use Rattle.moves.proofs.RoomLaws.{roomy}
-use Rattle.moves.proofs.PushLaws.{Logged, logged, conn-kept, lines-kept, fits-kept}
+use Rattle.moves.proofs.Staying.{conn-stays, count-stays, fits-stays}
+use Rattle.moves.proofs.PushLaws.{Logged, logged, logged-stays}
 
-pending-stays : (l : Line) → isPending l ≡ true → isFailed l ≡ false
+pub pending-stays : (l : Line) → isPending l ≡ true → isFailed l ≡ false
 pending-stays (Waiting is since) e = refl
 pending-stays (Pending is at since) e = refl
 pending-stays (InLine n a b) e = refl
@@ -38,7 +39,7 @@ logged-counts {w} {n} {w₁} l c g m =
     let L = ap (λ (x : Limits). x .L) (l .limits) in
     let C = ap (λ (x : Limits). x .C) (l .limits) in
     let D = ap (λ (x : Limits). x .D) (l .limits) in
-    let a = lines-kept l 0 in
+    let a = count-stays (logged-stays l) in
     let b = ap (λ (p : Prints). length (p .keyRows)) (l .prints) in
     let d = ap (λ (p : Prints). length (p .countRows)) (l .prints) in
     let e = l .count in
@@ -64,7 +65,7 @@ module _ {w v : List ℕ} {n i j p : ℕ} (r : Ready w v n) (a : AtPlace w i j p
       let y = q .all in
       let z = r .room in
       let k = l .records in
-      let ps = ap (λ (s : Connection). length (s .held)) (conn-kept l i) in
+      let ps = ap (λ (s : Connection). length (s .held)) (conn-stays (logged-stays l) i) in
       record {
         prints = record {
           tabled = record {
@@ -72,10 +73,10 @@ module _ {w v : List ℕ} {n i j p : ℕ} (r : Ready w v n) (a : AtPlace w i j p
             counts = logged-counts l (counts (r .sound)) (omega arith) (omega arith);
             tables = subst TablesSound (sym (l .prints)) (tabled (r .sound) .tables);
           };
-          fits = fits-kept l i (fits-sound w (r .sound) i (a .here));
+          fits = fits-stays (logged-stays l) i (fits-sound w (r .sound) i (a .here));
           room = omega arith;
         };
-        unfailed = ap (λ (s : Connection). isFailed (s .line)) (conn-kept l i) ∙ pending-stays ((connAt i (marketOf w)) .line) (a .pending);
+        unfailed = ap (λ (s : Connection). isFailed (s .line)) (conn-stays (logged-stays l) i) ∙ pending-stays ((connAt i (marketOf w)) .line) (a .pending);
       }
 
   pub line-up-done : {w₂ v₂ : List ℕ} {n₂ : ℕ} (t e m : ℕ) → e ≡ end (marketOf w .log) → m ≡ length (events (itemsOf ((connAt i (marketOf w)) .line)))

@@ -4,25 +4,26 @@ use mathlib.Core.List.{List, [], _∷_, _++_}
 use Prim.Native.Nat.{ℕ, zero, suc, _+_, _-_, _≤_, _<_}
 use native.Mathlib.Nat.{zero-sub, sub-zero, suc-sub-suc}
 use native.Mathlib.Omega.{arith}
-use lib.ListN.{length, getD, drop, length-drop, drop-of-length-le}
+use lib.ListN.{length, drop, length-drop, drop-of-length-le}
 use lib.Seq.{drop-nil}
 use Rattle.rules.specs.declared.Item.{Item}
 use Rattle.rules.specs.declared.Item.the-variants as Item
 use Rattle.rules.specs.declared.Limits.{Limits}
 use Rattle.rules.specs.Quantities.{Key}
-use Rattle.rules.specs.Lines.{Connection, Market, connAt, nobody, itemsOf, events}
+use Rattle.rules.specs.Lines.{Connection, Market, connAt, itemsOf, events}
 use Rattle.rules.specs.Entering.{Work, begin, pushOut, pushAll}
 use Rattle.rules.proofs.SoundMoves.{pushAll-pushed, events-le}
 use Rattle.place.specs.Items.{itemIn}
 use Rattle.place.proofs.Items.{items-drop}
 use Rattle.store.specs.Store.{limitsOf, headOf, lineCount, marketOf, Sized}
 use Rattle.store.specs.ConnMoves.{itemsAt, LineFits}
-use Rattle.store.proofs.MarketLaws.{market-limits, market-base, entry-count, lines-count}
+use Rattle.store.proofs.MarketLaws.{market-limits, market-base, entry-count}
 use Rattle.store.proofs.FrameLaws.{moved-limits}
 use Rattle.store.proofs.ConnLaws.{items-said}
 use Rattle.moves.specs.Does.{Does, PushRoom, ItemsRoom}
 use Rattle.moves.proofs.DoesLaws.{does-as, does-none}
 use Rattle.moves.proofs.LeftLaws.{Left, left-start, left-then, left-done}
+use Rattle.moves.proofs.Staying.{Stays, conn-stays, fits-stays}
 
 -- ---- one item
 
@@ -95,25 +96,8 @@ logged {w} {v} {n} {w₁} {v₁} {n₁} c t es d =
       records = (let x = g .count in let y = p .out in omega arith);
     }
 
-module _ {w : List ℕ} {n : ℕ} {w₁ : List ℕ} {n₁ k : ℕ} (l : Logged w n w₁ n₁ k) (i : ℕ) where
-  pub conn-kept : connAt i (marketOf w₁) ≡ connAt i (marketOf w)
-  conn-kept = ap (λ (ls : List Connection). getD ls i nobody) (l .lines)
-
-  pub lines-kept : lineCount w₁ ≡ lineCount w
-  lines-kept = sym (lines-count w₁) ∙ ap length (l .lines) ∙ lines-count w
-
-  pub fits-kept : LineFits w i → LineFits w₁ i
-  fits-kept f =
-      let a = lines-kept in
-      let L = ap (λ (x : Limits). x .L) (l .limits) in
-      let H = ap (λ (x : Limits). x .H) (l .limits) in
-      let is = ap (λ (s : Connection). length (itemsOf (s .line))) conn-kept in
-      let ps = ap (λ (s : Connection). length (s .held)) conn-kept in
-      let b = f .at .lined .count in
-      let h = f .at .here in
-      let x = f .items in
-      let y = f .prints in
-      record { at = record { lined = record { sized = l .sized; count = omega arith }; here = omega arith }; items = omega arith; prints = omega arith }
+pub logged-stays : {w : List ℕ} {n : ℕ} {w₁ : List ℕ} {n₁ k : ℕ} → Logged w n w₁ n₁ k → Stays w w₁
+logged-stays l = record { sized = l .sized; lines = l .lines; limits = l .limits }
 
 -- ---- along the items
 
@@ -173,10 +157,10 @@ module _ {w v : List ℕ} {n i : ℕ} (r : ItemsRoom w v n i) (c t skip : ℕ) w
 
   module _ {w₁ v₁ : List ℕ} {n₁ skip₁ j : ℕ} (a : PushedTo c t i skip w v n w₁ v₁ n₁ skip₁ j) where
     pub push-fits : LineFits w₁ i
-    push-fits = fits-kept (a .log) i (r .fits)
+    push-fits = fits-stays (logged-stays (a .log)) i (r .fits)
 
     pub push-held : length (itemsOf ((connAt i (marketOf w₁)) .line)) ≡ length (itemsOf ((connAt i (marketOf w)) .line))
-    push-held = ap (λ (s : Connection). length (itemsOf (s .line))) (conn-kept (a .log) i)
+    push-held = ap (λ (s : Connection). length (itemsOf (s .line))) (conn-stays (logged-stays (a .log)) i)
 
     pub push-room : j < length (itemsOf ((connAt i (marketOf w)) .line)) → PushRoom w₁ v₁ n₁
     push-room h =
@@ -202,7 +186,7 @@ module _ {w v : List ℕ} {n i : ℕ} (r : ItemsRoom w v n i) (c t skip : ℕ) w
         let f = a .few in
         let o = r .room in
         let next : drop j is ≡ item ∷ drop (j + 1) is =
-        subst (λ (q : Connection). drop j (itemsOf (q .line)) ≡ item ∷ drop (j + 1) (itemsOf (q .line))) (conn-kept (a .log) i)
+        subst (λ (q : Connection). drop j (itemsOf (q .line)) ≡ item ∷ drop (j + 1) (itemsOf (q .line))) (conn-stays (logged-stays (a .log)) i)
         (rw e (item-next w₁ i (push-fits .at .here) j (omega (arith, push-held)))) in
         record {
           pushed = a .pushed + length es;

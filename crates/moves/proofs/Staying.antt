@@ -14,13 +14,16 @@ pub record Stays (w w₁ : List ℕ) : Type 0 where
   pub lines : marketOf w₁ .lines ≡ marketOf w .lines
   pub limits : limitsOf w₁ ≡ limitsOf w
 
+pub count-stays : {w w₁ : List ℕ} → Stays w w₁ → lineCount w₁ ≡ lineCount w
+count-stays {w} {w₁} s = sym (lines-count w₁) ∙ ap length (s .lines) ∙ lines-count w
+
 module _ {w w₁ : List ℕ} (s : Stays w w₁) (i : ℕ) where
   pub conn-stays : connAt i (marketOf w₁) ≡ connAt i (marketOf w)
   conn-stays = ap (λ (ls : List Connection). getD ls i nobody) (s .lines)
 
   pub line-at-stays : LineAt w i → LineAt w₁ i
   line-at-stays f =
-      let n : lineCount w₁ ≡ lineCount w = sym (lines-count w₁) ∙ ap length (s .lines) ∙ lines-count w in
+      let n : lineCount w₁ ≡ lineCount w = count-stays s in
       let l : limitsOf w₁ .L ≡ limitsOf w .L = ap (λ (x : Limits). x .L) (s .limits) in
       record { lined = record { sized = s .sized; count = rw (n, l) (f .lined .count) }; here = rw n (f .here) }
 

@@ -55,7 +55,8 @@ pub fn put_snapshot(
     message: u64,
 ) -> usize
     requires { ⌜ (Sized (now s)) × (7 * n + 7 ≤ length (now out)) ⌝ }
-    ensures { λ r. ⌜ ((token : ℕ) → Does (putItems conn t (Item.Snapshot token message ∷ [])) (now (s .entry)) (now (out .entry)) n (now (s .exit)) (now (out .exit)) r) ⌝ }
+    ensures { λ r. ⌜ ((token : ℕ) → Does (putItems conn t (Item.Snapshot token message ∷ []))
+        (now (s .entry)) (now (out .entry)) n (now (s .exit)) (now (out .exit)) r) ⌝ }
 {
     store::entries::stamp(s, t);
     let record = Applied {
@@ -83,7 +84,9 @@ fn put_item(s: &mut [u64], out: &mut [u64], n: usize, conn: u64, t: u64, item: I
 // Puts the i-th line's items out in order.
 fn put_items(s: &mut [u64], out: &mut [u64], n: usize, i: usize, t: u64) -> usize
     requires { ⌜ ItemsRoom (now s) (now out) n i ⌝ }
-    ensures { λ r. ⌜ Does (putItems ((connAt i (marketOf (now (s .entry)))) .conn) t (itemsOf ((connAt i (marketOf (now (s .entry)))) .line))) (now (s .entry)) (now (out .entry)) n (now (s .exit)) (now (out .exit)) r ⌝ }
+    ensures { λ r. ⌜ Does (putItems ((connAt i (marketOf (now (s .entry)))) .conn) t
+        (itemsOf ((connAt i (marketOf (now (s .entry)))) .line)))
+        (now (s .entry)) (now (out .entry)) n (now (s .exit)) (now (out .exit)) r ⌝ }
 {
     let conn = store::conns::conn_at(s, i);
     let held = store::conns::held(s, i);
@@ -123,7 +126,8 @@ fn release_print(s: &mut [u64], out: &mut [u64], n: usize, conn: u64, print: Hel
 // Puts the i-th line's held prints out.
 fn release_prints(s: &mut [u64], out: &mut [u64], n: usize, i: usize) -> usize
     requires { ⌜ PrintsRoom (now s) (now out) n i ⌝ }
-    ensures { λ r. ⌜ Does (release ((connAt i (marketOf (now (s .entry)))) .conn) ((connAt i (marketOf (now (s .entry)))) .held)) (now (s .entry)) (now (out .entry)) n (now (s .exit)) (now (out .exit)) r ⌝ }
+    ensures { λ r. ⌜ Does (release ((connAt i (marketOf (now (s .entry)))) .conn) ((connAt i (marketOf (now (s .entry)))) .held))
+        (now (s .entry)) (now (out .entry)) n (now (s .exit)) (now (out .exit)) r ⌝ }
 {
     let conn = store::conns::conn_at(s, i);
     let held = store::conns::prints_held(s, i);
@@ -140,7 +144,8 @@ fn release_prints(s: &mut [u64], out: &mut [u64], n: usize, i: usize) -> usize
 // The i-th line enters line as this one in line, and its held prints are released.
 pub fn enter(s: &mut [u64], out: &mut [u64], n: usize, i: usize, line: Line) -> usize
     requires { ⌜ EnterRoom (now s) (now out) n i ⌝ }
-    ensures { λ r. ⌜ ((entry next : ℕ) (a b : Bool) → ((w : List ℕ) → lineOf line w ≡ Rules.InLine next a b) → Does (enter i entry next a b) (now (s .entry)) (now (out .entry)) n (now (s .exit)) (now (out .exit)) r) ⌝ }
+    ensures { λ r. ⌜ ((entry next : ℕ) (a b : Bool) → ((w : List ℕ) → lineOf line w ≡ Rules.InLine next a b)
+        → Does (enter i entry next a b) (now (s .entry)) (now (out .entry)) n (now (s .exit)) (now (out .exit)) r) ⌝ }
 {
     let m = release_prints(s, out, n, i);
     store::conns::drop_prints(s, i);
@@ -151,7 +156,8 @@ pub fn enter(s: &mut [u64], out: &mut [u64], n: usize, i: usize, line: Line) -> 
 // The i-th line takes the market over: its items are put out, and it enters line at the end.
 pub fn take_over(s: &mut [u64], out: &mut [u64], n: usize, i: usize, t: u64) -> usize
     requires { ⌜ (Ready (now s) (now out) n) × ((i < lineCount (now s)) × (NotFailed (now s) i)) ⌝ }
-    ensures { λ r. ⌜ Does (takeOver i (itemsOf ((connAt i (marketOf (now (s .entry)))) .line)) t) (now (s .entry)) (now (out .entry)) n (now (s .exit)) (now (out .exit)) r ⌝ }
+    ensures { λ r. ⌜ Does (takeOver i (itemsOf ((connAt i (marketOf (now (s .entry)))) .line)) t)
+        (now (s .entry)) (now (out .entry)) n (now (s .exit)) (now (out .exit)) r ⌝ }
 {
     let m = put_items(s, out, n, i, t);
     let next = store::entries::end(s);

@@ -22,7 +22,8 @@ struct Past {
 // Passes an item over, or pushes and puts it out: the events from the skip-th on are.
 fn push_past(s: &mut [u64], out: &mut [u64], past: Past, conn: u64, t: u64, item: Item) -> Past
     requires { ⌜ PushRoom (now s) (now out) (past .n) ⌝ }
-    ensures { λ r. ⌜ Does (pushAll conn t (drop (past .skip) (events (item ∷ [])))) (now (s .entry)) (now (out .entry)) (past .n) (now (s .exit)) (now (out .exit)) (r .n) ⌝ }
+    ensures { λ r. ⌜ Does (pushAll conn t (drop (past .skip) (events (item ∷ []))))
+        (now (s .entry)) (now (out .entry)) (past .n) (now (s .exit)) (now (out .exit)) (r .n) ⌝ }
     ensures { λ r. ⌜ r .skip ≡ past .skip - length (events (item ∷ [])) ⌝ }
 {
     match item {
@@ -43,7 +44,9 @@ fn push_past(s: &mut [u64], out: &mut [u64], past: Past, conn: u64, t: u64, item
 // Pushes and puts out the i-th line's held events from the skip-th on.
 fn push_events(s: &mut [u64], out: &mut [u64], n: usize, i: usize, t: u64, skip: usize) -> usize
     requires { ⌜ ItemsRoom (now s) (now out) n i ⌝ }
-    ensures { λ r. ⌜ Does (pushAll ((connAt i (marketOf (now (s .entry)))) .conn) t (drop skip (events (itemsOf ((connAt i (marketOf (now (s .entry)))) .line))))) (now (s .entry)) (now (out .entry)) n (now (s .exit)) (now (out .exit)) r ⌝ }
+    ensures { λ r. ⌜ Does (pushAll ((connAt i (marketOf (now (s .entry)))) .conn) t
+        (drop skip (events (itemsOf ((connAt i (marketOf (now (s .entry)))) .line)))))
+        (now (s .entry)) (now (out .entry)) n (now (s .exit)) (now (out .exit)) r ⌝ }
 {
     let conn = store::conns::conn_at(s, i);
     let held = store::conns::held(s, i);

@@ -21,7 +21,8 @@ pub fn events_held(s: &[u64], i: usize) -> usize
 // Where the i-th line lines up, while no line is due a snapshot.
 pub fn alignment(s: &[u64], i: usize, quiet: bool) -> Place
     requires { ⌜ (Sound (now s)) × (i < lineCount (now s)) ⌝ }
-    ensures { λ r. ⌜ r ≡ placeOf (marketOf (now (s .entry)) .log .base) (aligns quiet ((connAt i (marketOf (now (s .entry)))) .line) (marketOf (now (s .entry)))) ⌝ }
+    ensures { λ r. ⌜ r ≡ placeOf (marketOf (now (s .entry)) .log .base)
+        (aligns quiet ((connAt i (marketOf (now (s .entry)))) .line) (marketOf (now (s .entry)))) ⌝ }
 {
     if store::conns::line_at(s, i).pending() {
         if store::conns::some_due(s) {

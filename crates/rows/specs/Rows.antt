@@ -79,5 +79,6 @@ pub record Room (three : Bool) (b n x y z : ℕ) (w : List ℕ) : Type 0 where
 
 -- the row of x, y, z has the last word u, or is put in: v has r rows where w had n
 pub data Upserted (three : Bool) (b n x y z u : ℕ) (w v : List ℕ) (r : ℕ) : Type 0 where
-  changed : (i : ℕ) → Here three (rowIn b w) n x y z i → Put w v (b + i) (row (rowIn b w i .a) (rowIn b w i .b) (rowIn b w i .c) u) → r ≡ n → Upserted three b n x y z u w v r
+  changed : (i : ℕ) → Here three (rowIn b w) n x y z i → Put w v (b + i) (row (rowIn b w i .a) (rowIn b w i .b) (rowIn b w i .c) u) → r ≡ n
+      → Upserted three b n x y z u w v r
   added : (i : ℕ) → Between three (rowIn b w) n x y z i → Inserted w v (b + i) (b + n) (row x y z u) → r ≡ n + 1 → Upserted three b n x y z u w v r

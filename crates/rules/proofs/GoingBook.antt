@@ -25,7 +25,7 @@ use Rattle.rules.proofs.Invariant.{present, revise, sorted-set}
 use Rattle.rules.proofs.History.{conn-of}
 use Rattle.rules.proofs.Still.{Still, in-line-set, largest-absorb, largest-at-least, map-set, sum-set-same, sweep-still}
 use Rattle.rules.proofs.SentCalls.{sent-book}
-use Rattle.rules.proofs.Going.{Calm, CalmLine, Going, Judged, Moved, Next, Printed, Stamped, counting, printKeys, printPairs, refuse-judged, seenKey}
+use Rattle.rules.proofs.Going.{Calm, CalmLine, Going, Judged, Moved, Next, Printed, counting, printKeys, printPairs, refuse-judged, seenKey}
 
 module _ (U : List Key) (m : Market) (c : ℕ) (k : Key) (msg now room : ℕ) (xs : List Call) (g : Going U m (BookEvent c k msg now room ∷ xs))
     (n : ℕ) (a b : Bool) (e : lineFor c m ≡ InLine n a b) where

@@ -25,7 +25,7 @@ use Rattle.rules.proofs.Invariant.{present}
 use Rattle.rules.proofs.History.{conn-of}
 use Rattle.rules.proofs.Still.{largest-shift}
 use Rattle.rules.proofs.SentCalls.{sent-print}
-use Rattle.rules.proofs.Going.{Fits, Going, Judged, Moved, Printed, Stamped, printKeys, printPairs, printing, refuse-judged, seenKey, seenPair}
+use Rattle.rules.proofs.Going.{Fits, Going, Judged, Moved, Printed, printKeys, printPairs, printing, refuse-judged, seenKey, seenPair}
 
 -- ---- a print
 

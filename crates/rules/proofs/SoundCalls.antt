@@ -1,6 +1,5 @@
 -- Each call but the tick leaves a sound market sound, and puts out no more records than the room asked for.
 use mathlib.Core.Path.{_≡_, refl, ap, subst}
-use mathlib.Core.Logic.{_≢_}
 use mathlib.Core.List.{List, [], _∷_, _++_, map}
 use mathlib.Core.Option.{none}
 use mathlib.Core.Bool.{Bool, true, false, not, _&&_, _||_, cond}

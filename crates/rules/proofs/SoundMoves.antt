@@ -1,6 +1,5 @@
 -- What a call does on the way leaves a sound market sound, and puts out no more than its lines held.
 use mathlib.Core.Path.{_≡_, refl, sym, _∙_, ap, subst}
-use mathlib.Core.Logic.{_≢_}
 use mathlib.Core.List.{List, [], _∷_}
 use mathlib.Core.Option.{none, some}
 use mathlib.Core.Bool.{Bool, true, false, not, cond}

@@ -147,7 +147,8 @@ points =
     -- no sweep after a take-over by snapshot: 2, whose pqrs now fit the log, stays pending
     ∷ says (deserted ++ (snap 1 1 0 ∷ [])) (answer apply (putSnap 1 ∷ putEvent 1 0 1 ∷ putEvent 1 1 2 ∷ putEvent 1 2 3 ∷ putEvent 1 3 4 ∷ putSnap 1 ∷ []) [])
     ∷ leaves (deserted ++ (snap 1 1 0 ∷ [])) 2
-    (Pending (Item.Snapshot 0 0 ∷ Item.Snapshot 1 0 ∷ Item.Event (key 1 1) 1 ∷ Item.Event (key 2 2) 2 ∷ Item.Event (key 3 3) 3 ∷ Item.Event (key 4 4) 4 ∷ []) (Stamp.At 0) 0)
+    (Pending (Item.Snapshot 0 0 ∷ Item.Snapshot 1 0 ∷ Item.Event (key 1 1) 1 ∷ Item.Event (key 2 2) 2
+    ∷ Item.Event (key 3 3) 3 ∷ Item.Event (key 4 4) 4 ∷ []) (Stamp.At 0) 0)
     -- and a sweep after the next event: 2 lines up
     ∷ leaves (deserted ++ (snap 1 1 0 ∷ event 1 5 ∷ [])) 2 (InLine 4 false false)
     -- counts outlive a drop

@@ -37,7 +37,8 @@ pub fn subscribe(s: &mut [u64], conn: u64, t: u64) -> Changed
 // A connection sends a snapshot of a token, 0 or 1.
 pub fn snapshot(s: &mut [u64], out: &mut [u64], conn: u64, token: u64, message: u64, t: u64) -> Step
     requires { ⌜ Sound (now s) ⌝ }
-    ensures { λ r. ⌜ Steps (Snapshot conn token message t (records (now (out .entry)))) (lent (now (s .entry)) (now (out .entry))) (ofStep r) (lent (now (s .exit)) (now (out .exit))) ⌝ }
+    ensures { λ r. ⌜ Steps (Snapshot conn token message t (records (now (out .entry))))
+        (lent (now (s .entry)) (now (out .entry))) (ofStep r) (lent (now (s .exit)) (now (out .exit))) ⌝ }
 {
     if 1 < token {
         return Step::Refused(10);
@@ -69,7 +70,8 @@ pub fn book_event(
 // A connection sends a print: any message that is neither a snapshot nor a book event.
 pub fn other(s: &mut [u64], out: &mut [u64], conn: u64, key: EventKey, message: u64, t: u64) -> Step
     requires { ⌜ Sound (now s) ⌝ }
-    ensures { λ r. ⌜ Steps (Print conn key message t (records (now (out .entry)))) (lent (now (s .entry)) (now (out .entry))) (ofStep r) (lent (now (s .exit)) (now (out .exit))) ⌝ }
+    ensures { λ r. ⌜ Steps (Print conn key message t (records (now (out .entry))))
+        (lent (now (s .entry)) (now (out .entry))) (ofStep r) (lent (now (s .exit)) (now (out .exit))) ⌝ }
 {
     if short(s, out.len()) {
         return Step::Refused(3);
@@ -137,7 +139,9 @@ fn above_one(answers: &[u64]) -> bool
 // Time passes: old entries and print keys go, and each line has its turn.
 pub fn tick(s: &mut [u64], out: &mut [u64], reports: &mut [u64], answers: &[u64], t: u64) -> Ticked
     requires { ⌜ Sound (now s) ⌝ }
-    ensures { λ r. ⌜ Steps (Tick (now (answers .entry)) t (records (now (out .entry))) (reportRoom (now (reports .entry)))) (lentAll (now (s .entry)) (now (out .entry)) (now (reports .entry))) (ofTicked r) (lentAll (now (s .exit)) (now (out .exit)) (now (reports .exit))) ⌝ }
+    ensures { λ r. ⌜ Steps (Tick (now (answers .entry)) t (records (now (out .entry))) (reportRoom (now (reports .entry))))
+        (lentAll (now (s .entry)) (now (out .entry)) (now (reports .entry))) (ofTicked r)
+        (lentAll (now (s .exit)) (now (out .exit)) (now (reports .exit))) ⌝ }
 {
     if bad_answers(s, answers) {
         return Ticked::Refused(11);

@@ -10,10 +10,10 @@ use Rattle.rules.specs.declared.Limits.{Limits}
 use Rattle.rules.specs.Lines.{withLines}
 use Rattle.words.specs.Words.{part, back, tab}
 use Rattle.words.proofs.Cases.{below-or, apart, row-before}
-use Rattle.words.proofs.Parts.{Loan, part-length, length-back, back-below, part-same, part-before, part-after}
+use Rattle.words.proofs.Parts.{Loan, part-length, part-same, part-before, part-after}
 use Rattle.words.proofs.Tab.{tab-set}
 use Rattle.lines.specs.Area.{connOf}
-use Rattle.store.specs.Store.{limitsOf, headIn, headOf, lineCount, usedOf, tablesAt, linesAt, lineWidth, lineStart, logWords, tableWords, lineWordsAt, connIn, marketOf, Sized, KindsKnown}
+use Rattle.store.specs.Store.{limitsOf, lineCount, lineWidth, lineStart, lineWordsAt, connIn, marketOf, Sized, KindsKnown}
 use Rattle.store.specs.ConnMoves.{LineAt}
 use Rattle.store.proofs.MarketLaws.{market-by}
 use Rattle.store.proofs.FrameLaws.{Only, only-back, limits-stay, sized-stay, log-stays, head-stays, tables-stay, used-stays}

@@ -62,7 +62,8 @@ pub fn take_out(s: &mut [u64], i: usize)
 // A line of the connection comes to stand at place i: the areas from there on move up by one.
 pub fn insert(s: &mut [u64], i: usize, conn: u64, t: u64)
     requires { ⌜ Room (now s) i ⌝ }
-    ensures { λ _. ⌜ Moved (now (s .entry)) (now (s .exit)) (withLines (inserted i (waiting conn t) (marketOf (now (s .entry)) .lines)) (marketOf (now (s .entry)))) ⌝ }
+    ensures { λ _. ⌜ Moved (now (s .entry)) (now (s .exit))
+        (withLines (inserted i (waiting conn t) (marketOf (now (s .entry)) .lines)) (marketOf (now (s .entry)))) ⌝ }
 {
     let n = s[9] as usize;
     let h = s[1] as usize;

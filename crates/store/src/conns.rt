@@ -123,7 +123,8 @@ pub fn set_line(s: &mut [u64], i: usize, line: Line)
 // The i-th line holds an item behind the others.
 pub fn hold_item(s: &mut [u64], i: usize, item: Item)
     requires { ⌜ ItemRoom (now s) i item ⌝ }
-    ensures { λ r. ⌜ Moved (now (s .entry)) (now (s .exit)) (setLine i (holding item ((connAt i (marketOf (now (s .entry)))) .line)) (marketOf (now (s .entry)))) ⌝ }
+    ensures { λ r. ⌜ Moved (now (s .entry)) (now (s .exit))
+        (setLine i (holding item ((connAt i (marketOf (now (s .entry)))) .line)) (marketOf (now (s .entry)))) ⌝ }
 {
     let h = s[1] as usize;
     let a = crate::areas::line_start(s, i);
@@ -154,7 +155,9 @@ pub fn print_at(s: &[u64], i: usize, j: usize) -> HeldPrint
 // The i-th line holds a print behind the others.
 pub fn hold_print(s: &mut [u64], i: usize, key: EventKey, message: u64)
     requires { ⌜ PrintRoom (now s) i ⌝ }
-    ensures { λ r. ⌜ Moved (now (s .entry)) (now (s .exit)) (setConn i ((connAt i (marketOf (now (s .entry)))) .line) ((connAt i (marketOf (now (s .entry)))) .held ++ ((key, message) ∷ [])) (marketOf (now (s .entry)))) ⌝ }
+    ensures { λ r. ⌜ Moved (now (s .entry)) (now (s .exit))
+        (setConn i ((connAt i (marketOf (now (s .entry)))) .line)
+        ((connAt i (marketOf (now (s .entry)))) .held ++ ((key, message) ∷ [])) (marketOf (now (s .entry)))) ⌝ }
 {
     let h = s[1] as usize;
     let a = crate::areas::line_start(s, i);

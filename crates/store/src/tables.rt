@@ -75,7 +75,8 @@ pub fn deliver(s: &mut [u64], key: EventKey, conn: u64, t: u64)
     requires { ⌜ Tabled (now s) ⌝ }
     requires { ⌜ noRow key conn (marketOf (now s) .limits) (marketOf (now s) .prints) ≡ false ⌝ }
     requires { ⌜ deliveredIn key conn (marketOf (now s) .prints .countRows) < maxCount ⌝ }
-    ensures { λ _. ⌜ Moved (now (s .entry)) (now (s .exit)) (withPrints (counted key conn t (marketOf (now (s .entry)) .prints)) (marketOf (now (s .entry)))) ⌝ }
+    ensures { λ _. ⌜ Moved (now (s .entry)) (now (s .exit))
+        (withPrints (counted key conn t (marketOf (now (s .entry)) .prints)) (marketOf (now (s .entry)))) ⌝ }
 {
     let c = s[3] as usize;
     let a = crate::areas::tables_start(s);

@@ -1,6 +1,7 @@
 use native.Mathlib.Omega.{arith}
 use Rattle.store.proofs.TableLaws.{tabled}
-use Rattle.market_prints.proofs.PrintingLaws.{record-room, put-done}
+use Rattle.market.proofs.AnswerLaws.{room-one}
+use Rattle.market_prints.proofs.PrintingLaws.{put-done}
 use borrow.Author.Needs.{needs}
 use Rattle.market_prints.proofs.put_print.Statement.{statement}
 use Rattle.market_prints.proofs.put_print.Tie as tie
@@ -12,7 +13,7 @@ sub-t14 : tie.Need-sub-t14
 sub-t14 c = let h = c .before .before .before .before .before .before .pre .1 .0 in omega arith
 
 put-record-requires : tie.Need-put-record-requires
-put-record-requires c κs = record-room (c .before .before .before .before .before .before .before .pre .0)
+put-record-requires c κs = room-one (c .before .before .before .before .before .before .before .pre .0)
 
 returns : tie.Need-returns
 returns c =

@@ -1,6 +1,7 @@
 use mathlib.Core.Path.{_∙_}
 use Rattle.market_snapshots.proofs.SnapshotLaws.{line-at}
-use Rattle.market_snapshots.proofs.DueLaws.{room-one, due-ready, due-done}
+use Rattle.market.proofs.AnswerLaws.{room-one}
+use Rattle.market_snapshots.proofs.DueLaws.{due-ready, due-done}
 use borrow.Author.Needs.{needs}
 use Rattle.market_snapshots.proofs.due_snapshot.Statement.{statement}
 use Rattle.market_snapshots.proofs.due_snapshot.Tie as tie
