@@ -9,7 +9,7 @@ use lib.Dec.{eqb}
 use lib.ListN.{length}
 use Rattle.rules.specs.Lists.{Each, Rising, amend, any, first, maybe}
 use Rattle.rules.specs.Quantities.{Key, same}
-use Rattle.rules.specs.Prints.{CountRow, KeyRow, appliedIn, before, countBefore, deliver, deliveredIn, keyBefore, ofKey, ofPair, setApplied, touch}
+use Rattle.rules.specs.Prints.{CountRow, KeyRow, appliedIn, before, countBefore, deliver, deliveredIn, keyBefore, ofKey, ofPair, setApplied, touch, touchedIn}
 use Rattle.rules.specs.Sound.{CountLess, KeyLess}
 use Rattle.rules.proofs.Tests.{by-cond}
 use Rattle.rules.proofs.Order.{before-total, before-trans, pairBefore, pairBefore-total, pairBefore-trans, same-itself, same-true, samePair, samePair-itself, samePair-true}
@@ -20,9 +20,6 @@ keyId r = r .key
 
 countId : CountRow → Key × ℕ
 countId r = (r .key, r .conn)
-
-abbrev pub touchedIn : Key → List KeyRow → ℕ
-touchedIn k rs = maybe 0 (λ r. r .touched) (first (ofKey k) rs)
 
 -- ---- touch
 

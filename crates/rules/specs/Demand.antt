@@ -10,10 +10,10 @@ use Rattle.rules.specs.declared.Limits.{Limits}
 use Rattle.rules.specs.declared.Kind.{Kind}
 use Rattle.rules.specs.declared.Kind.the-variants as Kind
 use Rattle.rules.specs.declared.Applied.{Applied}
-use Rattle.rules.specs.Lists.{keep, any, first, sum, largest, count, maybe, Each, In}
+use Rattle.rules.specs.Lists.{keep, any, sum, largest, count, Each, In}
 use Rattle.rules.specs.Quantities.{Key, same, bookOut}
 use Rattle.rules.specs.Log.{Log, keys, end, push}
-use Rattle.rules.specs.Prints.{ofKey, ofPair, appliedIn, deliveredIn}
+use Rattle.rules.specs.Prints.{ofKey, ofPair, appliedIn, touchedIn, deliveredIn}
 use Rattle.rules.specs.Lines.{Line, Waiting, Pending, InLine, Failed, Connection, Market, fresh, lineOf, connAt, isPending, isInLine}
 use Rattle.rules.specs.Calls.{Answer, done, apply, duplicate, held, ignored, diverged, failed, kept, gone, rebuild, Outcome, refused, did}
 use Rattle.rules.specs.Refusals.{Call, Subscribe, Snapshot, BookEvent, Print, Drop, Promote, Reset, Tick, step}
@@ -319,7 +319,7 @@ logBy (x ∷ xs) [] l = l
 logBy (x ∷ xs) (a ∷ said) l = logBy xs said (pushedBy x a l)
 
 abbrev pub touchedOf : Key → Market → ℕ
-touchedOf k m = maybe 0 (λ r. r .touched) (first (ofKey k) (m .prints .keyRows))
+touchedOf k m = touchedIn k (m .prints .keyRows)
 
 -- a print touches its key
 abbrev pub touchedBy : Key → Call → ℕ → ℕ

@@ -43,6 +43,9 @@ ofPair k c r = same (r .key) k && eqb (r .conn) c
 abbrev pub appliedIn : Key → List KeyRow → ℕ
 appliedIn k rs = maybe 0 (λ r. r .applied) (first (ofKey k) rs)
 
+abbrev pub touchedIn : Key → List KeyRow → ℕ
+touchedIn k rs = maybe 0 (λ r. r .touched) (first (ofKey k) rs)
+
 abbrev pub deliveredIn : Key → ℕ → List CountRow → ℕ
 deliveredIn k c rs = maybe 0 (λ r. r .delivered) (first (ofPair k c) rs)
 
