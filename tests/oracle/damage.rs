@@ -1,6 +1,6 @@
 // Changes of a store's words and length: near what is sound, so that many stores stay sound and others miss it in one place.
 use crate::random::Random;
-use crate::words::{Limits, MOST};
+use crate::words::{Limits, LAYOUT, MOST};
 
 // A number near another, or at an edge.
 pub fn edge(r: &mut Random, old: u64) -> u64 {
@@ -51,7 +51,8 @@ impl Places {
             4 => (9, r.of(&[0, x.l, x.l + 1, w[9].wrapping_add(1), w[9].wrapping_sub(1), u64::MAX])),
             5 | 6 => (10, r.of(&[0, x.c, x.c + 1, w[10].wrapping_add(1), w[10].wrapping_sub(1)])),
             7 | 8 => (11, r.of(&[0, x.d, x.d + 1, w[11].wrapping_add(1), w[11].wrapping_sub(1)])),
-            9 => (r.between(12, 63) as usize, r.next()),
+            9 if r.percent(50) => (12, edge(r, LAYOUT)),
+            9 => (r.between(13, 63) as usize, r.next()),
             _ => {
                 let i = r.below(5) as usize;
                 (i, r.of(&[0, 1, MOST.all()[i], MOST.all()[i] + 1, w[i].wrapping_add(1), w[i].wrapping_sub(1), u64::MAX]))
@@ -135,6 +136,9 @@ pub fn random(x: Limits, r: &mut Random) -> Vec<u64> {
     let mut w: Vec<u64> = (0..n).map(|_| if small { r.below(4) } else { r.next() }).collect();
     if n >= 5 && r.percent(50) {
         w[..5].copy_from_slice(&x.all());
+    }
+    if n > 12 && r.percent(75) {
+        w[12] = LAYOUT;
     }
     w
 }

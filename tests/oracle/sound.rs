@@ -1,9 +1,9 @@
 // Whether words are a sound store: 01, "Quantities", on the words of docs/LAYOUT.md, which also has the order of the print rows. Nothing
 // here comes from the crates. A number is trusted only after the test that bounds it.
-use crate::words::Limits;
+use crate::words::{Limits, LAYOUT};
 
 // What can be wrong with a store.
-pub const FAULTS: [&str; 20] = [
+pub const FAULTS: [&str; 21] = [
     "shorter than a header",
     "limits out of range",
     "shorter than its limits need",
@@ -24,6 +24,7 @@ pub const FAULTS: [&str; 20] = [
     "next above the end",
     "log and items above G",
     "end and items above 2^64 - 1",
+    "another layout",
 ];
 
 pub fn sound(w: &[u64]) -> bool {
@@ -45,6 +46,7 @@ fn need(holds: bool, fault: usize) -> Result<(), usize> {
 
 fn header(w: &[u64]) -> Result<Limits, usize> {
     need(w.len() >= 64, 0)?;
+    need(w[12] == LAYOUT, 20)?;
     let x = Limits::of(w);
     need(x.in_range(), 1)?;
     need(w.len() >= x.store(), 2)?;

@@ -2,6 +2,9 @@
 
 pub type Key = (u64, u64);
 
+// The layout of a store, in word 12 of its header.
+pub const LAYOUT: u64 = 1;
+
 #[derive(Clone, Copy, Debug, PartialEq)]
 pub struct Limits {
     pub l: u64,

@@ -1,7 +1,7 @@
 // A market's words by docs/LAYOUT.md. Words that mean nothing are random, in half of the stores small.
 use crate::random::Random;
 use crate::reading::{Held, Item, Line, Market};
-use crate::words::Limits;
+use crate::words::{Limits, LAYOUT};
 
 pub fn words(m: &Market, x: Limits, r: &mut Random) -> Vec<u64> {
     let small = r.percent(50);
@@ -13,6 +13,7 @@ pub fn words(m: &Market, x: Limits, r: &mut Random) -> Vec<u64> {
     w[9] = m.lines.len() as u64;
     w[10] = m.keys.len() as u64;
     w[11] = m.counts.len() as u64;
+    w[12] = LAYOUT;
     let (g, c, d) = (x.g as usize, x.c as usize, x.d as usize);
     for (i, (key, time)) in m.log.iter().enumerate() {
         w[64 + 2 * i..][..2].copy_from_slice(&[key.0, key.1]);

@@ -15,13 +15,13 @@ use Rattle.words.proofs.Parts.{part-length}
 use Rattle.log.specs.declared.Head.{Head}
 use Rattle.prints.specs.declared.Used.{Used}
 use Rattle.prints.specs.Area.{printsOf, Fits}
-use Rattle.store.specs.Store.{limitsOf, headOf, lineCount, usedOf, tablesAt, linesAt, tableWords, marketOf, Sized}
+use Rattle.store.specs.Store.{layout, layoutOf, limitsOf, headOf, lineCount, usedOf, tablesAt, linesAt, tableWords, marketOf, Sized}
 use Rattle.store.specs.Moves.{Counts}
 use Rattle.store.proofs.MarketLaws.{market-prints}
 use Rattle.sound.specs.Parts.{Ranged}
 use Rattle.sound.proofs.RangeLaws.{bounds}
 
--- ---- limits and length
+-- ---- layout, limits and length
 
 module _ (w : List ℕ) (l : Limits) (q : l ≡ limitsOf w) where
   pub outside : inRange l ≡ false → Ranged w → ⊥
@@ -30,13 +30,22 @@ module _ (w : List ℕ) (l : Limits) (q : l ≡ limitsOf w) where
   pub short : length w < wordsNeeded l → Ranged w → ⊥
   short h r = let n : wordsNeeded l ≡ wordsNeeded (limitsOf w) = ap wordsNeeded q in omega (arith, r .sized .long)
 
-  pub ranged : 64 ≤ length w → inRange l ≡ true → wordsNeeded l ≤ length w → Ranged w
-  ranged h e long =
+  pub ranged : 64 ≤ length w → layoutOf w ≡ layout → inRange l ≡ true → wordsNeeded l ≤ length w → Ranged w
+  ranged h v e long =
       let range : inRange (limitsOf w) ≡ true = ap inRange (sym q) ∙ e in
       let b = bounds (limitsOf w) range in
       let n : wordsNeeded l ≡ wordsNeeded (limitsOf w) = ap wordsNeeded q in
       record {
-        sized = record { header = h; long = rw n at long; lines = b .lines; held = b .held; events = b .events; keys = b .keys; pairs = b .pairs };
+        sized = record {
+          header = h;
+          version = v;
+          long = rw n at long;
+          lines = b .lines;
+          held = b .held;
+          events = b .events;
+          keys = b .keys;
+          pairs = b .pairs;
+        };
         range = range;
       }
 

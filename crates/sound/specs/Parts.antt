@@ -8,7 +8,7 @@ use Rattle.rules.specs.Lines.{connAt, itemCount}
 use Rattle.lines.specs.AreaSound.{AreaSound}
 use Rattle.store.specs.Store.{limitsOf, headOf, lineCount, lineWordsAt, marketOf, Sized}
 
--- long enough for its limits, and no limit is 0 or too large
+-- of this layout, long enough for its limits, and no limit is 0 or too large
 pub record Ranged (w : List ℕ) : Type 0 where
   pub sized : Sized w
   pub range : inRange (limitsOf w) ≡ true

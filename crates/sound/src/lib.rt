@@ -33,11 +33,14 @@ pub fn words_needed(l: Limits) -> u64
     64 + l.L * (7 * l.H + 64) + 3 * l.G + 4 * l.C + 4 * l.D
 }
 
-// Whether the words are long enough for their limits, which are in range.
+// Whether the words are of this layout, and long enough for their limits, which are in range.
 fn sized(s: &[u64]) -> bool
     ensures { λ r. ⌜ Says r (Ranged (now (s .entry))) ⌝ }
 {
     if s.len() < 64 {
+        return false;
+    }
+    if store::layout(s) != store::LAYOUT {
         return false;
     }
     let l = store::entries::limits(s);

@@ -20,7 +20,7 @@ use Rattle.prints.specs.declared.Used.{Used}
 use Rattle.prints.specs.Area.{printsOf}
 use Rattle.lines.specs.Area.{connOf}
 use Rattle.lines.proofs.AreaLaws.{stamp-back}
-use Rattle.store.specs.Store.{limitsOf, headIn, headWords, headOf, lineCount, usedOf, tablesAt, linesAt, lineWidth, lineStart, logWords, tableWords, lineWordsAt, connIn, marketOf, Sized, KindsKnown, Sound}
+use Rattle.store.specs.Store.{layoutOf, limitsOf, headIn, headWords, headOf, lineCount, usedOf, tablesAt, linesAt, lineWidth, lineStart, logWords, tableWords, lineWordsAt, connIn, marketOf, Sized, KindsKnown, Sound}
 use Rattle.store.specs.Moves.{Moved}
 use Rattle.store.proofs.MarketLaws.{market-limits, market-by}
 
@@ -65,12 +65,13 @@ drop-ext : (a : ℕ) (v w : List ℕ) → length v ≡ length w → ((i : ℕ) �
 drop-ext a v w e h =
     ext-getD 0 (drop a v) (drop a w) (simp length-drop (omega arith)) (λ i l. getD-drop a v i 0 ∙ h (a + i) (omega arith) ∙ sym (getD-drop a w i 0))
 
--- a store of the same limits and length is sized too
-pub sized-same : (v w : List ℕ) → limitsOf v ≡ limitsOf w → length v ≡ length w → Sized w → Sized v
-sized-same v w q n s =
+-- a store of the same layout, limits and length is sized too
+pub sized-same : (v w : List ℕ) → layoutOf v ≡ layoutOf w → limitsOf v ≡ limitsOf w → length v ≡ length w → Sized w → Sized v
+sized-same v w y q n s =
     let limits : (f : Limits → ℕ) → f (limitsOf v) ≡ f (limitsOf w) = λ f. ap f q in
     record {
       header = rw n (s .header);
+      version = y ∙ s .version;
       long = rw (n, limits wordsNeeded) (s .long);
       lines = rw (limits (λ l. l .L)) (s .lines);
       held = rw (limits (λ l. l .H)) (s .held);
@@ -88,8 +89,8 @@ module _ {a e : ℕ} {w v : List ℕ} (o : Only a e w v) (below : 5 ≤ a) where
   pub limits-stay : limitsOf v ≡ limitsOf w
   limits-stay = λ j. record { L = low 0 (omega arith) j; H = low 1 (omega arith) j; G = low 2 (omega arith) j; C = low 3 (omega arith) j; D = low 4 (omega arith) j }
 
-  pub sized-stay : Sized w → Sized v
-  sized-stay z = sized-same v w limits-stay (o .size) z
+  pub sized-stay : (a ≤ 12 → 12 < e → ⊥) → Sized w → Sized v
+  sized-stay apart z = sized-same v w (o .others 12 apart) limits-stay (o .size) z
 
   -- a part that the change leaves
   pub part-stays : (b f : ℕ) → f ≤ length w → ((i : ℕ) → b ≤ i → i < f → a ≤ i → i < e → ⊥) → part b f v ≡ part b f w
@@ -111,8 +112,8 @@ module _ {a e : ℕ} {w v : List ℕ} (o : Only a e w v) (below : 5 ≤ a) where
     pub tables-stay : ((i : ℕ) → tablesAt (limitsOf w) ≤ i → i < linesAt (limitsOf w) → a ≤ i → i < e → ⊥) → tableWords v ≡ tableWords w
     tables-stay apart = ap (λ (l : Limits). part (tablesAt l) (linesAt l) v) limits-stay ∙ part-stays (tablesAt (limitsOf w)) (linesAt (limitsOf w)) (omega arith) apart
 
-    -- ---- a change neither in the lines' words nor in their count
-    module _ (one : a ≤ 9 → 9 < e → ⊥) (ends : e ≤ linesAt (limitsOf w)) where
+    -- ---- a change neither in the lines' words nor in their count, nor of the layout
+    module _ (one : a ≤ 9 → 9 < e → ⊥) (two : a ≤ 12 → 12 < e → ⊥) (ends : e ≤ linesAt (limitsOf w)) where
       line-stays : (i : ℕ) → lineWordsAt v i ≡ lineWordsAt w i
       line-stays i =
           let b = lineStart (limitsOf w) i in
@@ -136,7 +137,7 @@ module _ {a e : ℕ} {w v : List ℕ} (o : Only a e w v) (below : 5 ≤ a) where
       moved-to x h t u =
           record {
             market = market-by v w limits-stay x h t u lines-stay;
-            sized = sized-stay z;
+            sized = sized-stay two z;
             kinds = kinds-stay;
           }
 
@@ -168,7 +169,7 @@ module _ (w : List ℕ) (h : Head) (z : Sized w) where
   unfolding marketOf
   head-moved =
       let o = only-back head-loan in
-      moved-to o (omega arith) z (λ p q. omega arith) (omega arith)
+      moved-to o (omega arith) z (λ p q. omega arith) (λ p q. omega arith) (omega arith)
       (log-stays o (omega arith) z (λ i p q r s. omega arith))
       (ap headIn (part-same 5 9 (headWords h) w head-loan) ∙ head-back h)
       (tables-stay o (omega arith) z (λ i p q r s. omega arith))
@@ -189,7 +190,7 @@ module _ (w ys : List ℕ) (z : Sized w) (kept : length ys ≡ 3 * limitsOf w .G
   unfolding marketOf
   log-moved =
       let o = only-back log-loan in
-      moved-to o (omega arith) z (λ p q. omega arith) (omega arith)
+      moved-to o (omega arith) z (λ p q. omega arith) (λ p q. omega arith) (omega arith)
       log-put
       (head-stays o (omega arith) z (omega arith))
       (tables-stay o (omega arith) z (λ i p q r s. omega arith))
@@ -210,7 +211,7 @@ module _ (w ys : List ℕ) (z : Sized w) (kept : length ys ≡ 4 * limitsOf w .C
   unfolding marketOf
   tables-moved =
       let o = only-back tables-loan in
-      moved-to o (omega arith) z (λ p q. omega arith) (omega arith)
+      moved-to o (omega arith) z (λ p q. omega arith) (λ p q. omega arith) (omega arith)
       (log-stays o (omega arith) z (λ i p q r s. omega arith))
       (head-stays o (omega arith) z (omega arith))
       tables-put
@@ -228,7 +229,7 @@ module _ (w : List ℕ) (u : Used) (z : Sized w) where
   unfolding marketOf
   used-moved =
       let o : Only 10 12 w (putUsed u w) = only-set 10 (u .keys) (u .counts) in
-      moved-to o (omega arith) z (λ p q. omega arith) (omega arith)
+      moved-to o (omega arith) z (λ p q. omega arith) (λ p q. omega arith) (omega arith)
       (log-stays o (omega arith) z (λ i p q r s. omega arith))
       (head-stays o (omega arith) z (omega arith))
       (tables-stay o (omega arith) z (λ i p q r s. omega arith))

@@ -99,7 +99,7 @@ module _ (w ys : List ℕ) (i : ℕ) (f : LineAt w i) (kept : length ys ≡ line
 
   pub frame-sized : Sized (back (lineStart (limitsOf w) i) (lineStart (limitsOf w) i + lineWidth (limitsOf w)) ys w)
   unfolding a e v
-  frame-sized = sized-stay only (omega arith) (f .lined .sized)
+  frame-sized = sized-stay only (omega arith) (λ p q. omega arith) (f .lined .sized)
 
   pub frame-kinds : getD ys 1 0 ≤ 3 → KindsKnown w → KindsKnown (back (lineStart (limitsOf w) i) (lineStart (limitsOf w) i + lineWidth (limitsOf w)) ys w)
   unfolding a e v

@@ -3,19 +3,20 @@ use mathlib.Core.Path.{_≡_, refl, sym, ap, _∙_}
 use mathlib.Core.List.{List, [], _∷_}
 use Prim.Native.Nat.{ℕ, _+_, _*_, _≤_, _<_}
 use native.Mathlib.Omega.{arith}
-use lib.ListN.{length, getD}
+use lib.ListN.{length, getD, set, length-set}
+use lib.Seq.{getD-set-same}
 use Rattle.rules.specs.declared.Limits.{Limits}
 use Rattle.rules.specs.Log.{Log, keys, end}
 use Rattle.rules.specs.Lines.{Connection, connAt, nobody, fresh}
 use Rattle.words.specs.Words.{back, tab}
-use Rattle.words.proofs.Parts.{getD-part}
+use Rattle.words.proofs.Parts.{getD-part, length-back}
 use Rattle.words.proofs.Tab.{length-tab, getD-tab, tab-ext}
 use Rattle.log.specs.declared.Head.{Head}
 use Rattle.log.specs.Log.{keyIn, keysIn, logOf}
 use Rattle.log.proofs.Reading.{log-base, log-last, log-length, log-end, log-keys}
 use Rattle.prints.specs.declared.Used.{Used}
 use Rattle.prints.specs.Area.{printsOf, keyAt, countAt}
-use Rattle.store.specs.Store.{limitsOf, headOf, lineCount, usedOf, logWords, keyWords, tableWords, connIn, marketOf}
+use Rattle.store.specs.Store.{layoutOf, limitsOf, headOf, lineCount, usedOf, logWords, keyWords, tableWords, connIn, marketOf}
 
 module _ (w : List ℕ) where
   -- ---- its four parts
@@ -84,8 +85,23 @@ pub market-by : (v w : List ℕ) {xs ts : List ℕ} {h : Head} {u : Used} {ls : 
 unfolding marketOf
 market-by v w l x h t u ls = λ j. record { limits = l j; log = logOf (l j .G) (x j) (h j); prints = printsOf (l j .C) (t j) (u j); lines = ls j }
 
--- the header of an empty store: the limits, base, and zeros
-pub market-empty : (l : Limits) (start : ℕ) (w x y : List ℕ) → x ≡ l .L ∷ l .H ∷ l .G ∷ l .C ∷ l .D ∷ start ∷ 0 ∷ 0 ∷ [] → y ≡ 0 ∷ 0 ∷ 0 ∷ 0 ∷ []
-    → marketOf (back 8 12 y (back 0 8 x w)) ≡ fresh l start
-unfolding marketOf logOf printsOf
-market-empty l start w x y p q = λ j. marketOf (back 8 12 (q j) (back 0 8 (p j) w))
+-- the header of an empty store: the limits, base, zeros, and the layout v
+module _ (l : Limits) (start : ℕ) (w x y : List ℕ) (v : ℕ) (p : x ≡ l .L ∷ l .H ∷ l .G ∷ l .C ∷ l .D ∷ start ∷ 0 ∷ 0 ∷ []) (q : y ≡ 0 ∷ 0 ∷ 0 ∷ 0 ∷ []) where
+  abbrev pub emptied : List ℕ
+  emptied = set (back 8 12 y (back 0 8 x w)) 12 v
+
+  pub market-empty : marketOf emptied ≡ fresh l start
+  unfolding marketOf logOf printsOf
+  market-empty = λ j. marketOf (set (back 8 12 (q j) (back 0 8 (p j) w)) 12 v)
+
+  module _ (h : 64 ≤ length w) where
+    length-put : length (back 8 12 y (back 0 8 x w)) ≡ length w
+    length-put =
+        let a : length (back 0 8 x w) ≡ length w = length-back 0 8 x w (record { kept = ap length p; start = omega arith; inside = omega arith }) in
+        length-back 8 12 y (back 0 8 x w) (record { kept = ap length q; start = omega arith; inside = omega arith }) ∙ a
+
+    pub length-empty : length emptied ≡ length w
+    length-empty = length-set (back 8 12 y (back 0 8 x w)) 12 v ∙ length-put
+
+    pub layout-empty : layoutOf emptied ≡ v
+    layout-empty = getD-set-same (back 8 12 y (back 0 8 x w)) 12 v 0 (omega (arith, length-put))

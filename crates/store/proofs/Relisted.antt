@@ -77,6 +77,6 @@ module _ (w v : List ℕ) (i : ℕ) (z : Sized w) (r : Relisted w v i) where
   relisted-moved ls e k =
       record {
         market = relisted-market ls e;
-        sized = sized-same v w limits (r .size) z;
+        sized = sized-same v w (word 12 (omega arith) (λ q. omega arith)) limits (r .size) z;
         kinds = λ s j h. subst (λ (l : Limits). getD (areaIn l v j) 1 0 ≤ 3) (sym limits) (k s j h);
       }

@@ -1,4 +1,5 @@
 -- The reading of a store: the market that its words mean, and when it is sound. docs/LAYOUT.md has the words in a table.
+use mathlib.Core.Path.{_≡_}
 use mathlib.Core.List.{List, [], _∷_}
 use Prim.Native.Nat.{ℕ, _+_, _*_, _≤_, _<_}
 use lib.ListN.{length, getD}
@@ -33,6 +34,13 @@ lineCount w = getD w 9 0
 
 abbrev pub usedOf : List ℕ → Used
 usedOf w = record { keys = getD w 10 0; counts = getD w 11 0 }
+
+-- the layout of a store's words, which every change of it raises; setup writes it
+abbrev pub layout : ℕ
+layout = 1
+
+abbrev pub layoutOf : List ℕ → ℕ
+layoutOf w = getD w 12 0
 
 -- ---- the areas behind it: log, print tables, lines
 
@@ -78,9 +86,10 @@ marketOf w =
 
 -- ---- sound
 
--- long enough for its limits, which are in range
+-- of this layout, and long enough for its limits, which are in range
 pub record Sized (w : List ℕ) : Type 0 where
   pub header : 64 ≤ length w
+  pub version : layoutOf w ≡ layout
   pub long : wordsNeeded (limitsOf w) ≤ length w
   pub lines : limitsOf w .L ≤ 16
   pub held : limitsOf w .H ≤ 5000

@@ -1,13 +1,21 @@
-use Rattle.store.proofs.MarketLaws.{market-empty}
+use Rattle.store.proofs.MarketLaws.{market-empty, length-empty, layout-empty}
 use borrow.Author.Needs.{needs}
 use Rattle.store.proofs.put_header.Statement.{statement}
 use Rattle.store.proofs.put_header.Tie as tie
 
+same-length : tie.Need-same-length
+same-length c =
+    let p = c .before .before .before .before .before .before in
+    let a = p .before .before .before in
+    length-empty (a .args .l) (a .args .start) (a .args .s .now) _ _ 1 (p .put8 .ensures) (c .before .before .put4 .ensures) (a .pre)
+
 returns : tie.Need-returns
 returns c =
     let p = c .before .before .before .before .before .before in
-    let a = p .before .before .before .args in
-    market-empty (a .l) (a .start) (a .s .now) _ _ (p .put8 .ensures) (c .before .before .put4 .ensures)
+    let a = p .before .before .before in (
+      market-empty (a .args .l) (a .args .start) (a .args .s .now) _ _ 1 (p .put8 .ensures) (c .before .before .put4 .ensures),
+      layout-empty (a .args .l) (a .args .start) (a .args .s .now) _ _ 1 (p .put8 .ensures) (c .before .before .put4 .ensures) (a .pre),
+    )
 
 pub put-header-spec : {M : Type 1} → statement M
 put-header-spec =
@@ -22,4 +30,5 @@ put-header-spec =
     (λ c. search needs)
     (λ c κs. search needs)
     (λ c. search needs)
+    same-length
     returns)
