@@ -51,7 +51,8 @@ impl Batch {
                 m.reports.as_mut_ptr(), m.reports.len(), self.answers.as_mut_ptr(), self.answers.len(),
                 self.calls.as_ptr(), self.calls.len(), &mut done, &mut count, &mut reported)
         };
-        assert!(code == 1 && done > 0, "a list is refused: {code} {done}");
+        // All done, or no room for the next call.
+        assert!((code == 1 || code == 11) && done > 0, "a list is refused: {code} {done}");
         let answers = self.answers[..ANSWER * done as usize].chunks_exact(ANSWER);
         let sum = answers.fold(0u64, |sum, a| sum.wrapping_add(answered(a[0], a[1])));
         (done as usize, sum.wrapping_add(m.put_out(count as usize, reported as usize)))

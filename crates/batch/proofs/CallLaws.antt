@@ -1,11 +1,14 @@
 -- The words of a call, and what it leaves in lists that it does not take.
 use mathlib.Core.Path.{_≡_, refl, sym, ap, _∙_, subst}
 use mathlib.Core.List.{List, [], _∷_}
+use mathlib.Core.Logic.{_≢_}
 use mathlib.Core.Option.{Option, none, some}
-use Prim.Native.Nat.{ℕ, _≤_}
+use mathlib.Core.Bool.{Bool, cond}
+use Prim.Native.Nat.{ℕ, _+_, _≤_, _<_}
 use native.Mathlib.Omega.{arith}
 use lib.ListN.{length, getD}
-use borrow.Author.Tests.{ne-eqb}
+use lib.Dec.{eqb}
+use borrow.Author.Tests.{lt-ltb, ne-eqb}
 use Rattle.rules.specs.declared.Applied.{Applied}
 use Rattle.rules.specs.declared.Expired.{Expired}
 use Rattle.rules.specs.declared.Changed.{Changed}
@@ -14,11 +17,13 @@ use Rattle.rules.specs.declared.Lost.{Lost}
 use Rattle.rules.specs.declared.Lost.the-variants as Lost
 use Rattle.rules.specs.declared.Step.{Step}
 use Rattle.rules.specs.declared.Step.the-variants as Step
+use Rattle.rules.specs.Lists.{maybe}
 use Rattle.rules.specs.Quantities.{key}
 use Rattle.rules.specs.Lines.{Market}
 use Rattle.rules.specs.Calls.{Outcome, refused, did}
 use Rattle.rules.specs.Refusals.{Call, Subscribe, Snapshot, BookEvent, Print, Drop, Promote, Reset, Tick}
 use Rattle.rules.specs.Answers.{Said, number, word, ofStep, ofLost, ofChanged}
+use Rattle.rules.proofs.Tests.{eqb-false, by-cond}
 use Rattle.store.specs.Store.{marketOf, lineCount}
 use Rattle.store.proofs.MarketLaws.{lines-count}
 use Rattle.output.specs.Output.{recordsWords, reportsWords, over}
@@ -27,8 +32,9 @@ use Rattle.market_tick.specs.Turns.{lentAll}
 use Rattle.steps.specs.Steps.{Steps, records, reportRoom}
 use Rattle.codes.specs.declared.Told.{Told}
 use Rattle.codes.specs.Told.{Tells}
-use Rattle.batch.specs.Batch.{bits, callIn}
-use Rattle.batch.specs.Turn.{outcome, Calls, Does}
+use Rattle.batch.specs.declared.Stop.the-variants as Stop
+use Rattle.batch.specs.Batch.{bits, callIn, Ran, Room, callNext, why}
+use Rattle.batch.specs.Turn.{outcome, Calls, Does, Reasons}
 
 -- ---- the call of a number
 
@@ -74,6 +80,30 @@ module _ (w : List ℕ) (m : Market) (room reports : ℕ) where
   call-9 h =
       let n = getD w 0 0 in
       rw (ne-eqb n 1 (λ e. omega arith), ne-eqb n 2 (λ e. omega arith), ne-eqb n 3 (λ e. omega arith), ne-eqb n 4 (λ e. omega arith), ne-eqb n 5 (λ e. omega arith), ne-eqb n 6 (λ e. omega arith), ne-eqb n 7 (λ e. omega arith), ne-eqb n 8 (λ e. omega arith)) refl
+
+  -- a call is one of eight
+  call-some : {B : Type 0} (b y : B) → 1 ≤ getD w 0 0 → getD w 0 0 ≤ 8 → maybe b (λ x. y) (callIn w m room reports) ≡ y
+  unfolding callIn
+  call-some b y h l =
+      at 1 _ _ h (λ h₂. at 2 _ _ h₂ (λ h₃. at 3 _ _ h₃ (λ h₄. at 4 _ _ h₄ (λ h₅. at 5 _ _ h₅ (λ h₆. at 6 _ _ h₆ (λ h₇. at 7 _ _ h₇ (λ h₈. at 8 _ _ h₈ (λ h₉. absurd (omega arith)))))))))
+    where
+      at : (i : ℕ) (x : Call) (o : Option Call) → i ≤ getD w 0 0 → (i + 1 ≤ getD w 0 0 → maybe b (λ z. y) o ≡ y) → maybe b (λ z. y) (cond (eqb (getD w 0 0) i) (some x) o) ≡ y
+      at i x o p f = by-cond (λ (o : Option Call). maybe b (λ z. y) o ≡ y) (eqb (getD w 0 0) i) (λ e. refl) (λ e. let q : getD w 0 0 ≢ i = eqb-false e in f (omega arith))
+
+-- ---- why a call is not done
+
+why-here : (r : Room) (w : List ℕ) (k : Ran) → length (k .answers) < r .answers → why r w k ≡ maybe Stop.NoCall (λ x. Stop.NoRoom) (callNext r w k)
+unfolding why
+why-here r w k l = ap (λ (t : Bool). cond t (maybe Stop.NoCall (λ x. Stop.NoRoom) (callNext r w k)) Stop.NoAnswers) (lt-ltb (length (k .answers)) (r .answers) l)
+
+pub reason-0 : (n : ℕ) → n ≡ 0 → Reasons n Stop.NoCall
+reason-0 n h r w k e l = why-here r w k l ∙ ap (maybe Stop.NoCall (λ x. Stop.NoRoom)) (call-0 w _ _ _ (e ∙ h))
+
+pub reason-9 : (n : ℕ) → 9 ≤ n → Reasons n Stop.NoCall
+reason-9 n h r w k e l = why-here r w k l ∙ ap (maybe Stop.NoCall (λ x. Stop.NoRoom)) (call-9 w _ _ _ (omega arith))
+
+pub reason-call : (n : ℕ) → 1 ≤ n → n ≤ 8 → Reasons n Stop.NoRoom
+reason-call n h m r w k e l = why-here r w k l ∙ call-some w _ _ _ Stop.NoCall Stop.NoRoom (omega arith) (omega arith)
 
 -- ---- lists that a call does not take
 

@@ -27,6 +27,7 @@ use Rattle.steps.specs.Steps.{records, reportRoom}
 use Rattle.codes.specs.declared.Told.{Told}
 use Rattle.codes.specs.Told.{codeOf, saidWords, Tells}
 use Rattle.batch.specs.declared.Batched.the-variants as Batched
+use Rattle.batch.specs.declared.Stop.the-variants as Stop
 use Rattle.batch.specs.declared.Counts.{Counts}
 use Rattle.batch.specs.Batch.{callIn, Ran, after, afterCall, next, Lists, lists, roomIn, answersWords}
 use Rattle.batch.specs.Turn.{outcome, outcomeIn, Does, Stands, Went, Turns}
@@ -83,37 +84,38 @@ record Grows (now : Lists) (c : Counts) (now₁ : Lists) (c₁ : Counts) (m : Ma
   pub outSize : length (now₁ .out) ≡ length (now .out)
   pub reportsSize : length (now₁ .reports) ≡ length (now .reports)
   pub answersSize : length (now₁ .answers) ≡ length (now .answers)
-  pub counts : Batched.Did (c₁ .calls) (c₁ .records) (c₁ .reports) ≡ Batched.Did (c .calls + 1) (c .records + length xs) (c .reports + length rs)
+  pub calls : c₁ .calls ≡ c .calls + 1
+  pub recordCount : c₁ .records ≡ c .records + length xs
+  pub reportCount : c₁ .reports ≡ c .reports + length rs
 
 module _ (k : Ran) (b : Lists) (c : Counts) (now : Lists) (h : Stands k b c now) where
   pub calls-are : c .calls ≡ length (k .answers)
-  calls-are = let e = h .leaves .answered in cc
+  calls-are = let e = h .leaves Stop.AllDone .answered in cc
 
   records-are : c .records ≡ length (k .out)
-  records-are = let e = h .leaves .answered in cc
+  records-are = let e = h .leaves Stop.AllDone .answered in cc
 
   reports-are : c .reports ≡ length (k .reports)
-  reports-are = let e = h .leaves .answered in cc
+  reports-are = let e = h .leaves Stop.AllDone .answered in cc
 
   grown : (now₁ : Lists) (c₁ : Counts) (m : Market) (xs : List Applied) (rs : List Expired) (a : Said) → Grows now c now₁ c₁ m xs rs a
       → Stands (record { market = m; out = k .out ++ xs; reports = k .reports ++ rs; answers = k .answers ++ (a ∷ []) }) b c₁ now₁
   grown now₁ c₁ m xs rs a g =
       let out : now₁ .out ≡ over (recordsWords (k .out ++ xs)) (b .out) =
-      g .out ∙ over-more (recordsWords (k .out)) (recordsWords xs) (b .out) (now .out) (7 * c .records) (h .leaves .out) (records-length (k .out) ∙ ap (λ (n : ℕ). 7 * n) (sym records-are))
+      g .out ∙ over-more (recordsWords (k .out)) (recordsWords xs) (b .out) (now .out) (7 * c .records) (h .leaves Stop.AllDone .out) (records-length (k .out) ∙ ap (λ (n : ℕ). 7 * n) (sym records-are))
       ∙ ap (λ (z : List ℕ). over z (b .out)) (sym (records-append (k .out) xs)) in
       let reports : now₁ .reports ≡ over (reportsWords (k .reports ++ rs)) (b .reports) =
-      g .reports ∙ over-more (reportsWords (k .reports)) (reportsWords rs) (b .reports) (now .reports) (3 * c .reports) (h .leaves .reports) (reports-length (k .reports) ∙ ap (λ (n : ℕ). 3 * n) (sym reports-are))
+      g .reports ∙ over-more (reportsWords (k .reports)) (reportsWords rs) (b .reports) (now .reports) (3 * c .reports) (h .leaves Stop.AllDone .reports) (reports-length (k .reports) ∙ ap (λ (n : ℕ). 3 * n) (sym reports-are))
       ∙ ap (λ (z : List ℕ). over z (b .reports)) (sym (reports-append (k .reports) rs)) in
       let answers : now₁ .answers ≡ over (answersWords (k .answers ++ (a ∷ []))) (b .answers) =
-      g .answers ∙ over-more (answersWords (k .answers)) (saidWords a) (b .answers) (now .answers) (3 * c .calls) (h .leaves .answers) (answers-length (k .answers) ∙ ap (λ (n : ℕ). 3 * n) (sym calls-are))
+      g .answers ∙ over-more (answersWords (k .answers)) (saidWords a) (b .answers) (now .answers) (3 * c .calls) (h .leaves Stop.AllDone .answers) (answers-length (k .answers) ∙ ap (λ (n : ℕ). 3 * n) (sym calls-are))
       ∙ ap (λ (z : List ℕ). over z (b .answers)) (sym (answers-more (k .answers) a)) in
       let ca = length-append (k .answers) (a ∷ []) in
       let cx = length-append (k .out) xs in
       let cr = length-append (k .reports) rs in
-      let e = g .counts in
-      let e₁ : c₁ .calls ≡ c .calls + 1 = cc in
-      let e₂ : c₁ .records ≡ c .records + length xs = cc in
-      let e₃ : c₁ .reports ≡ c .reports + length rs = cc in
+      let e₁ = g .calls in
+      let e₂ = g .recordCount in
+      let e₃ = g .reportCount in
       let n₁ = calls-are in
       let n₂ = records-are in
       let n₃ = reports-are in
@@ -125,11 +127,11 @@ module _ (k : Ran) (b : Lists) (c : Counts) (now : Lists) (h : Stands k b c now)
       let l₂ = records-length (k .out ++ xs) in
       let l₃ = reports-length (k .reports ++ rs) in
       record {
-        leaves = record {
-          answered = λ i. Batched.Did (q₁ i) (q₂ i) (q₃ i);
+        leaves = λ s. record {
+          answered = λ i. Batched.Did (q₁ i) (q₂ i) (q₃ i) s;
           market = g .market;
           sound = g .sound;
-          size = g .size ∙ h .leaves .size;
+          size = g .size ∙ h .leaves Stop.AllDone .size;
           out = out;
           reports = reports;
           answers = answers;
@@ -162,7 +164,7 @@ next-is w k b c s v q z h l =
     let z₁ = h .answersSize in
     let z₂ = h .outSize in
     let z₃ = h .reportsSize in
-    let m : k .market ≡ marketOf s = sym (h .leaves .market) in
+    let m : k .market ≡ marketOf s = sym (h .leaves Stop.AllDone .market) in
     let e₂ : length (b .out) / 7 - length (k .out) ≡ records (part (7 * c .records) (length v) v) = omega arith in
     let e₃ : length (b .reports) / 3 - length (k .reports) ≡ reportRoom (part (3 * c .reports) (length q) q) = omega arith in
     let x : Option Call = callIn w (k .market) (length (b .out) / 7 - length (k .out)) (length (b .reports) / 3 - length (k .reports)) in
@@ -279,15 +281,13 @@ module _ (w : List ℕ) (c : Counts) (s v q z s₁ v₁ q₁ : List ℕ) (t : To
               let g = tells .words in
               let p : n ≡ t .count = cc in
               let es : s₁ ≡ s = ap (λ (x : Lent). x .store) left in
-              let n₂ : c .records ≡ c .records + 0 = omega arith in
-              let n₃ : c .reports ≡ c .reports + 0 = omega arith in
               rw (ne-eqb n 3 (λ x. f (sym p ∙ x))) (
                 refl,
                 subst (λ (x : Ran). Stands x b (refusedOne c) (lists s₁ out₁ reports₁ z₁)) (λ i. record { market = k .market; out = append-nil (k .out) i; reports = append-nil (k .reports) i; answers = k .answers ++ (number n ∷ []) })
                     (grown k b c (lists s v q z) h (lists s₁ out₁ reports₁ z₁) (refusedOne c) (k .market) [] [] (number n)
                     (record {
-                      market = ap marketOf es ∙ h .leaves .market;
-                      sound = subst Sound (sym es) (h .leaves .sound);
+                      market = ap marketOf es ∙ h .leaves Stop.AllDone .market;
+                      sound = subst Sound (sym es) (h .leaves Stop.AllDone .sound);
                       size = ap length es;
                       out = ap (λ (x : Lent). back a (length v) (x .out) v) left ∙ tail-over a [] v;
                       reports = ap (λ (x : Lent). back r (length q) (x .reports) q) left ∙ tail-over r [] q;
@@ -295,7 +295,9 @@ module _ (w : List ℕ) (c : Counts) (s v q z s₁ v₁ q₁ : List ℕ) (t : To
                       outSize = out-size;
                       reportsSize = reports-size;
                       answersSize = lz;
-                      counts = λ i. Batched.Did (c .calls + 1) (n₂ i) (n₃ i);
+                      calls = refl;
+                      recordCount = omega arith;
+                      reportCount = omega arith;
                     })),
               )
           go k b h (did x rs y) left tells = let g = tells .words in let p : codeOf x ≡ t .code = cc in let m = code-some x in absurd (omega arith)
@@ -325,6 +327,8 @@ module _ (w : List ℕ) (c : Counts) (s v q z s₁ v₁ q₁ : List ℕ) (t : To
                       outSize = out-size;
                       reportsSize = reports-size;
                       answersSize = lz;
-                      counts = λ i. Batched.Did (c .calls + 1) (c .records + n₂ i) (c .reports + n₃ i);
+                      calls = refl;
+                      recordCount = ap (λ (n : ℕ). c .records + n) n₂;
+                      reportCount = ap (λ (n : ℕ). c .reports + n) n₃;
                     }),
               )

@@ -19,6 +19,8 @@ use Rattle.output.specs.Output.{recordsWords, reportsWords, over}
 use Rattle.codes.specs.Told.{saidWords}
 use Rattle.batch.specs.declared.Batched.{Batched}
 use Rattle.batch.specs.declared.Batched.the-variants as Batched
+use Rattle.batch.specs.declared.Stop.{Stop}
+use Rattle.batch.specs.declared.Stop.the-variants as Stop
 
 -- the last n binary digits of x, lowest first
 unfoldable pub bits : ℕ → ℕ → List ℕ
@@ -73,15 +75,27 @@ abbrev pub afterCall : Option Call → Ran → Option Ran
 afterCall none k = none
 afterCall (some x) k = after (step x (k .market)) k
 
--- one call more, on what is left of the lists; none where it is no call or has no room
+-- the call of the words, on what is left of the lists
+abbrev pub callNext : Room → List ℕ → Ran → Option Call
+callNext r w k = callIn w (k .market) (r .records - length (k .out)) (r .reports - length (k .reports))
+
+-- one call more; none where there is no room for its answer, the words are no call, or it has no room (3)
 unfoldable pub next : Room → List ℕ → Ran → Option Ran
-next r w k =
-    cond (ltb (length (k .answers)) (r .answers)) (afterCall (callIn w (k .market) (r .records - length (k .out)) (r .reports - length (k .reports))) k) none
+next r w k = cond (ltb (length (k .answers)) (r .answers)) (afterCall (callNext r w k) k) none
 
 -- calls one after the other, until one is not done
 unfoldable pub run : Room → List (List ℕ) → Ran → Ran
 run r [] k = k
 run r (w ∷ ws) k = maybe k (run r ws) (next r w k)
+
+-- why a call is not done: there is no room for its answer, the words are no call, or it has no room (3)
+unfoldable pub why : Room → List ℕ → Ran → Stop
+why r w k = cond (ltb (length (k .answers)) (r .answers)) (maybe Stop.NoCall (λ x. Stop.NoRoom) (callNext r w k)) Stop.NoAnswers
+
+-- why the list ends
+unfoldable pub stop : Room → List (List ℕ) → Ran → Stop
+stop r [] k = Stop.AllDone
+stop r (w ∷ ws) k = maybe (why r w k) (stop r ws) (next r w k)
 
 abbrev pub start : Market → Ran
 start m = record { market = m; out = []; reports = []; answers = [] }
@@ -105,9 +119,9 @@ unfoldable pub answersWords : List Said → List ℕ
 answersWords [] = []
 answersWords (a ∷ rest) = saidWords a ++ answersWords rest
 
--- answer and words are those of what was done
-pub record Leaves (k : Ran) (before : Lists) (answer : Batched) (after : Lists) : Type 0 where
-  pub answered : answer ≡ Batched.Did (length (k .answers)) (length (k .out)) (length (k .reports))
+-- answer and words are those of what was done, and of why it ended there (s)
+pub record Leaves (k : Ran) (s : Stop) (before : Lists) (answer : Batched) (after : Lists) : Type 0 where
+  pub answered : answer ≡ Batched.Did (length (k .answers)) (length (k .out)) (length (k .reports)) s
   pub market : marketOf (after .store) ≡ k .market
   pub sound : Sound (after .store)
   pub size : length (after .store) ≡ length (before .store)
@@ -118,7 +132,14 @@ pub record Leaves (k : Ran) (before : Lists) (answer : Batched) (after : Lists) 
 abbrev pub ran : List ℕ → Lists → Ran
 ran calls l = run (roomIn l) (callsIn (length calls / 8) calls) (start (marketOf (l .store)))
 
--- an unsound store is refused with 1 and nothing lent changes; on a sound one each call does what the rules say
+abbrev pub stops : List ℕ → Lists → Stop
+stops calls l = stop (roomIn l) (callsIn (length calls / 8) calls) (start (marketOf (l .store)))
+
+-- each call does what the rules say, and the answer tells why the list ended
+abbrev pub Runs : List ℕ → Lists → Batched → Lists → Type 0
+Runs calls before answer after = Leaves (ran calls before) (stops calls before) before answer after
+
+-- an unsound store is refused with 1 and nothing lent changes; on a sound one the calls are done
 pub record MeetsBatch (calls : List ℕ) (before : Lists) (answer : Batched) (after : Lists) : Type 0 where
   pub unsound : (Sound (before .store) → ⊥) → (answer ≡ Batched.Refused 1) × (after ≡ before)
-  pub sound : Sound (before .store) → Leaves (ran calls before) before answer after
+  pub sound : Sound (before .store) → Runs calls before answer after

@@ -3,8 +3,8 @@ use mathlib.Core.Path.{_≡_}
 use mathlib.Core.List.{List}
 use mathlib.Core.Option.{Option, none, some}
 use mathlib.Core.Bool.{true, false}
-use Prim.Native.Nat.{ℕ, _+_, _*_, _≤_}
-use lib.ListN.{length}
+use Prim.Native.Nat.{ℕ, _+_, _*_, _≤_, _<_}
+use lib.ListN.{length, getD}
 use Rattle.rules.specs.Lines.{Market}
 use Rattle.rules.specs.Calls.{Outcome, refused}
 use Rattle.rules.specs.Refusals.{Call, step}
@@ -18,7 +18,8 @@ use Rattle.codes.specs.Told.{Tells}
 use Rattle.batch.specs.declared.Batched.{Batched}
 use Rattle.batch.specs.declared.Batched.the-variants as Batched
 use Rattle.batch.specs.declared.Counts.{Counts}
-use Rattle.batch.specs.Batch.{callIn, Ran, next, Lists, roomIn, Leaves}
+use Rattle.batch.specs.declared.Stop.{Stop}
+use Rattle.batch.specs.Batch.{callIn, Ran, Room, next, why, Lists, roomIn, Leaves}
 
 -- words that are no call end the list as a call without room does
 abbrev pub outcome : Option Call → Market → Outcome
@@ -37,14 +38,18 @@ pub record Does (w : List ℕ) (before : Lent) (t : Told) (after : Lent) : Type 
   pub left : Market.Leaves (outcomeIn w before) before after
   pub tells : Tells (saidBy (outcomeIn w before)) (t .code) (t .count) (t .reports)
 
+-- s is why a call of the number n is not done, where there is room for its answer
+abbrev pub Reasons : ℕ → Stop → Type 0
+Reasons n s = (r : Room) (w : List ℕ) (k : Ran) → getD w 0 0 ≡ n → length (k .answers) < r .answers → why r w k ≡ s
+
 -- ---- a list under way
 
-abbrev pub didSo : Counts → Batched
-didSo c = Batched.Did (c .calls) (c .records) (c .reports)
+abbrev pub didSo : Counts → Stop → Batched
+didSo c s = Batched.Did (c .calls) (c .records) (c .reports) s
 
--- what was done stands in the lists, and is counted
+-- what was done stands in the lists, and is counted, whatever ends the list
 pub record Stands (k : Ran) (before : Lists) (c : Counts) (now : Lists) : Type 0 where
-  pub leaves : Leaves k before (didSo c) now
+  pub leaves : (s : Stop) → Leaves k s before (didSo c s) now
   pub outSize : length (now .out) ≡ length (before .out)
   pub reportsSize : length (now .reports) ≡ length (before .reports)
   pub answersSize : length (now .answers) ≡ length (before .answers)

@@ -6,28 +6,42 @@ use rules::Step;
 use rules::Ticked;
 ghost use mathlib.Core.Path.{_≡_};
 ghost use mathlib.Core.List.{List, [], _∷_};
-ghost use Prim.Native.Nat.{ℕ, _+_, _*_, _/_, _≤_, _<_};
+ghost use Prim.Native.Nat.{ℕ, _+_, _*_, _≤_};
 ghost use lib.ListN.{length, getD, take};
 ghost use Rattle.rules.specs.Answers.{number, ofStep, ofLost, ofTicked};
 ghost use Rattle.store.specs.Store.{Sound};
 ghost use Rattle.output.specs.Output.{overAt};
 ghost use Rattle.market_tick.specs.Turns.{lentAll};
 ghost use Rattle.codes.specs.Told.{Tells};
-ghost use Rattle.batch.specs.Batch.{MeetsBatch, Leaves, bits, lists, ran};
-ghost use Rattle.batch.specs.Told.{TellsBatched};
-ghost use Rattle.batch.specs.Turn.{Calls, Does, Turns, TurnRoom, didSo};
+ghost use Rattle.batch.specs.Batch.{MeetsBatch, Runs, bits, lists};
+ghost use Rattle.batch.specs.Told.{TellsBatched, codeOfStop};
+ghost use Rattle.batch.specs.Turn.{Calls, Does, Reasons, Turns, TurnRoom, didSo};
+
+// Why a list of calls ended.
+pub enum Stop {
+    // Every whole call of the list was done.
+    AllDone,
+    // The next call needs more room for records or reports than is left.
+    NoRoom,
+    // The next eight words are no call.
+    NoCall,
+    // There is no room for another answer.
+    NoAnswers,
+}
 
 pub enum Batched {
-    // So many calls were done, and put out so many records and reports.
+    // So many calls were done, and put out so many records and reports; why the list ended.
     Did {
         calls: usize,
         records: usize,
         reports: usize,
+        stop: Stop,
     },
     Refused(u64),
 }
 
-// The same as four numbers: code 0 is a refusal, and the count of calls its number; 1 done.
+// The same as four numbers: code 0 is a refusal, and the count of calls its number; 1 all done, 11 no room for the next call, 12 no
+// call, 13 no room for another answer.
 pub struct Numbers {
     pub code: u64,
     pub calls: u64,
@@ -215,51 +229,29 @@ fn turn(
     }
 }
 
-// How many calls there are, at most as many as there is room for answers.
-fn most(calls: usize, answers: usize) -> usize
-    ensures { λ r. ⌜ (r ≤ calls / 8) × ((r ≤ answers / 3) × (r < calls / 8 → r ≡ answers / 3)) ⌝ }
+// Why a call of this number is not done, where there is room for its answer.
+fn reason(n: u64) -> Stop
+    ensures { λ r. ⌜ Reasons n r ⌝ }
 {
-    let n = calls / 8;
-    let room = answers / 3;
-    if n < room {
-        return n;
+    match n {
+        1..=8 => Stop::NoRoom,
+        _ => Stop::NoCall,
     }
-    room
 }
 
-// The calls, one after the other, until one is not done.
-fn turns(
-    s: &mut [u64],
-    out: &mut [u64],
-    reports: &mut [u64],
-    answers: &mut [u64],
-    calls: &[u64],
-) -> Counts
-    requires { ⌜ Sound (now s) ⌝ }
-    ensures { λ r. ⌜ Leaves (ran (now (calls .entry))
-        (lists (now (s .entry)) (now (out .entry)) (now (reports .entry)) (now (answers .entry))))
-        (lists (now (s .entry)) (now (out .entry)) (now (reports .entry)) (now (answers .entry))) (didSo r)
-        (lists (now (s .exit)) (now (out .exit)) (now (reports .exit)) (now (answers .exit))) ⌝ }
+// What a list answers that ends here.
+fn ended(k: Counts, stop: Stop) -> Batched
+    ensures { λ r. ⌜ r ≡ didSo k stop ⌝ }
 {
-    let n = most(calls.len(), answers.len());
-    let mut k = Counts {
-        calls: 0,
-        records: 0,
-        reports: 0,
-        stopped: false,
-    };
-    while k.calls < n {
-        let row = 8 * k.calls;
-        let end = row + 8;
-        k = turn(s, out, reports, answers, &calls[row..end], k);
-        if k.stopped {
-            return k;
-        }
+    Batched::Did {
+        calls: k.calls,
+        records: k.records,
+        reports: k.reports,
+        stop,
     }
-    k
 }
 
-// Does the calls of a sound store.
+// Does the calls of a sound store, one after the other, until one is not done.
 pub fn run(
     s: &mut [u64],
     out: &mut [u64],
@@ -268,17 +260,31 @@ pub fn run(
     calls: &[u64],
 ) -> Batched
     requires { ⌜ Sound (now s) ⌝ }
-    ensures { λ r. ⌜ Leaves (ran (now (calls .entry))
-        (lists (now (s .entry)) (now (out .entry)) (now (reports .entry)) (now (answers .entry))))
+    ensures { λ r. ⌜ Runs (now (calls .entry))
         (lists (now (s .entry)) (now (out .entry)) (now (reports .entry)) (now (answers .entry))) r
         (lists (now (s .exit)) (now (out .exit)) (now (reports .exit)) (now (answers .exit))) ⌝ }
 {
-    let k = turns(s, out, reports, answers, calls);
-    Batched::Did {
-        calls: k.calls,
-        records: k.records,
-        reports: k.reports,
+    let n = calls.len() / 8;
+    let room = answers.len() / 3;
+    let mut k = Counts {
+        calls: 0,
+        records: 0,
+        reports: 0,
+        stopped: false,
+    };
+    while k.calls < n {
+        if room <= k.calls {
+            return ended(k, Stop::NoAnswers);
+        }
+        let row = 8 * k.calls;
+        let end = row + 8;
+        k = turn(s, out, reports, answers, &calls[row..end], k);
+        if k.stopped {
+            let stop = reason(calls[row]);
+            return ended(k, stop);
+        }
     }
+    ended(k, Stop::AllDone)
 }
 
 // Does the calls, on any words.
@@ -299,6 +305,17 @@ pub fn batch(
     Batched::Refused(1)
 }
 
+fn code_of_stop(stop: Stop) -> u64
+    ensures { λ r. ⌜ r ≡ codeOfStop stop ⌝ }
+{
+    match stop {
+        Stop::AllDone => 1,
+        Stop::NoRoom => 11,
+        Stop::NoCall => 12,
+        Stop::NoAnswers => 13,
+    }
+}
+
 pub fn of_batched(a: Batched) -> Numbers
     ensures { λ r. ⌜ TellsBatched a (r .code) (r .calls) (r .records) (r .reports) ⌝ }
 {
@@ -307,8 +324,9 @@ pub fn of_batched(a: Batched) -> Numbers
             calls,
             records,
             reports,
+            stop,
         } => Numbers {
-            code: 1,
+            code: code_of_stop(stop),
             calls: calls as u64,
             records: records as u64,
             reports: reports as u64,

@@ -182,8 +182,9 @@ pub extern "C" fn merge_tick(
     told.code
 }
 
-// A list of calls; docs/LAYOUT.md has the words of a call and of an answer. Code 1, with how many calls were done and how many records
-// and reports they put out; 0 is a refusal, and `done` its number.
+// A list of calls; docs/LAYOUT.md has the words of a call and of an answer. The code tells why the list ended: 1 all done, 11 no room for
+// the next call, 12 no call, 13 no room for another answer; with how many calls were done and how many records and reports they put
+// out. 0 is a refusal, and `done` its number.
 #[no_mangle]
 pub extern "C" fn merge_batch(
     s: &mut [u64],

@@ -11,7 +11,7 @@ ghost use Rattle.market.specs.Lent.{lent, alone};
 ghost use Rattle.market_tick.specs.Turns.{lentAll};
 ghost use Rattle.steps.specs.Steps.{Steps, records, reportRoom};
 ghost use Rattle.codes.specs.Told.{Tells, Telling};
-ghost use Rattle.batch.specs.Batch.{Leaves, lists, ran};
+ghost use Rattle.batch.specs.Batch.{Runs, lists};
 ghost use Rattle.batch.specs.Told.{TellsBatched};
 
 #[no_mangle]
@@ -173,7 +173,7 @@ pub extern "C" fn owned_batch(
 ) -> u64
     requires { ⌜ Sound (now s) ⌝ }
     ensures { λ r. ⌜ Telling (λ a. TellsBatched a r (now (done .exit)) (now (count .exit)) (now (reported .exit)))
-        (λ a. Leaves (ran (now (calls .entry)) (lists (now (s .entry)) (now (out .entry)) (now (reports .entry)) (now (answers .entry))))
+        (λ a. Runs (now (calls .entry))
         (lists (now (s .entry)) (now (out .entry)) (now (reports .entry)) (now (answers .entry)))
         a (lists (now (s .exit)) (now (out .exit)) (now (reports .exit)) (now (answers .exit)))) ⌝ }
 {
