@@ -20,33 +20,44 @@ fn run(what: &str, command: &mut Command) {
     }
 }
 
-/// An archive of the repository, made where it is absent.
-fn made(root: &Path, library: &str) -> PathBuf {
+/// An archive of the repository. To make it takes minutes of proving, of which cargo would show nothing, so that is asked for.
+fn of_repository(root: &Path, library: &str) -> PathBuf {
     let archive = root.join(format!("target/staticlib/lib{library}.a"));
     if !archive.is_file() {
-        let rt = Command::new("rt")
-            .args(["staticlib", library])
-            .current_dir(root)
-            .status();
-        match rt {
-            Ok(status) if status.success() => {}
-            Ok(status) => fail(&format!("`rt staticlib {library}` ended with {status}.")),
-            Err(_) => fail(&format!(
-                "There is no {}, and no `rt` to make it. Install the Rattle kit with `rt` on the PATH, or set {ARCHIVE} to \
-                 archives that `rt staticlib` made elsewhere.",
-                archive.display()
-            )),
-        }
+        fail(&format!(
+            "There is no target/staticlib/lib{library}.a yet. Make the archives of the proved calls first, in the repository's root:\n\n    \
+             rt staticlib owned && rt staticlib exports\n\n\
+             The first time this proves the calls, which takes about ten minutes on two cores and shows its progress. Where the Rattle \
+             kit with `rt` is not at hand, set {ARCHIVE} to archives that were made elsewhere (host/README.md)."
+        ));
     }
     archive
 }
 
-/// The archives that the environment names, or those of the repository.
+/// An archive that the environment names.
+fn named(path: PathBuf) -> PathBuf {
+    let shown = path.display();
+    if path.is_relative() {
+        fail(&format!(
+            "{ARCHIVE} names '{shown}'. Give its whole path: a build script does not know which folder that is relative to."
+        ));
+    }
+    if !path.is_file() {
+        fail(&format!(
+            "{ARCHIVE} names '{shown}', and there is no such file."
+        ));
+    }
+    path
+}
+
+/// The archives that the environment names, or those of the repository where it names none.
 fn archives(root: &Path) -> Vec<PathBuf> {
     println!("cargo:rerun-if-env-changed={ARCHIVE}");
     match std::env::var_os(ARCHIVE) {
-        Some(named) => std::env::split_paths(&named).collect(),
-        None => LIBRARIES.map(|library| made(root, library)).to_vec(),
+        Some(paths) if !paths.is_empty() => std::env::split_paths(&paths).map(named).collect(),
+        _ => LIBRARIES
+            .map(|library| of_repository(root, library))
+            .to_vec(),
     }
 }
 

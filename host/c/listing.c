@@ -3,9 +3,7 @@
  *     cc -I host/include host/c/listing.c target/staticlib/libexports.a -o listing
  */
 #include "pollendrift.h"
-
-#include <inttypes.h>
-#include <stdio.h>
+#include "printing.h"
 
 enum { LINES = 4, HELD = 32, EVENTS = 128, KEYS = 32, PAIRS = 128 };
 
@@ -15,23 +13,6 @@ static merge_record records[MERGE_RECORDS(LINES, HELD)];
 static const size_t WORDS = sizeof store / sizeof *store;
 static const size_t ROOM = MERGE_OUTPUT_WORDS(LINES, HELD);
 
-static const char *const ANSWERS[] = {"refused",  "done",   "apply", "duplicate", "held",   "ignored",
-                                      "diverged", "failed", "kept",  "gone",      "rebuild"};
-
-/* Prints an answer and its records. */
-static void print_answer(uint64_t code, uint64_t count) {
-    if (code == MERGE_REFUSED) {
-        printf("refused %" PRIu64 "\n", count);
-        return;
-    }
-    puts(ANSWERS[code]);
-    for (uint64_t i = 0; i < count; i++) {
-        const merge_record *r = &records[i];
-        printf("put %" PRIu64 " %c %" PRIu64 " %" PRIu64 " %" PRIu64 " %" PRIu64 " %" PRIu64 "\n", r->conn, "sbp"[r->kind],
-               r->number, r->key[0], r->key[1], r->message, r->times);
-    }
-}
-
 int main(void) {
     uint64_t *out = (uint64_t *)records;
     uint64_t code, count;
@@ -40,14 +21,14 @@ int main(void) {
         return 1;
     }
     code = merge_subscribe(store, WORDS, 1, 0, &count);
-    print_answer(code, count);
+    print_answer(code, count, records);
     code = merge_snapshot(store, WORDS, out, ROOM, 1, 0, 10, 0, &count);
-    print_answer(code, count);
+    print_answer(code, count, records);
     code = merge_book_event(store, WORDS, out, ROOM, 1, 7, 7, 11, 0, &count);
-    print_answer(code, count);
+    print_answer(code, count, records);
     code = merge_print(store, WORDS, out, ROOM, 1, 9, 9, 12, 0, &count);
-    print_answer(code, count);
+    print_answer(code, count, records);
     code = merge_drop(store, WORDS, out, ROOM, 1, 0, &count);
-    print_answer(code, count);
+    print_answer(code, count, records);
     return 0;
 }

@@ -107,9 +107,9 @@ impl<M> Kept<M> {
     /// The connection has no line.
     pub fn remove(&mut self, conn: ConnId) {
         if let Ok(place) = self.place(conn) {
-            self.table.let_go(&mut self.lines[place].items);
-            self.table.let_go(&mut self.lines[place].prints);
-            self.lines.remove(place);
+            let mut line = self.lines.remove(place);
+            self.table.let_go(&mut line.items);
+            self.table.let_go(&mut line.prints);
         }
     }
 

@@ -10,7 +10,9 @@ mod ffi;
 mod kept;
 mod key;
 mod limits;
+mod mapped;
 mod merge;
+mod reading;
 mod refusal;
 mod store;
 mod types;
@@ -18,12 +20,15 @@ mod types;
 pub use key::EventKey;
 pub use limits::Limits;
 pub use merge::MarketMerge;
+pub use reading::{Kind, LineReading, Reading};
 pub use refusal::Refusal;
 pub use types::{
-    Applied, ConnId, Expired, Lost, Step, ALIGN_RUN, ALIGN_TIMEOUT, LOG_KEEP, MAX_HELD, QUIET,
+    Applied, ConnId, Entry, Expired, Lost, Repeated, Step, ALIGN_RUN, ALIGN_TIMEOUT, LOG_KEEP,
+    MAX_HELD, QUIET,
 };
 
-/// Names the types of this crate for one message type, as the original module has them: without a parameter.
+/// Names the types of this crate for one message type, as the original module has them: without a parameter, and with an entry for
+/// each copy of a print that is to be applied.
 ///
 /// ```
 /// mod feed_merge {
@@ -62,12 +67,12 @@ macro_rules! drop_in {
         pub type Applied = $crate::Applied<$message>;
         /// What to do with a delivered message.
         #[allow(dead_code)]
-        pub type Step = $crate::Step<$message>;
+        pub type Step = $crate::Step<Applied>;
         /// What became of the book.
         #[allow(dead_code)]
-        pub type Lost = $crate::Lost<$message>;
+        pub type Lost = $crate::Lost<Applied>;
         /// What a tick did.
         #[allow(dead_code)]
-        pub type Expired = $crate::Expired<$message>;
+        pub type Expired = $crate::Expired<Applied>;
     };
 }

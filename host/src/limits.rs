@@ -6,6 +6,17 @@ pub(crate) const REPORT: usize = 3;
 /// What a market's store takes; fixed at construction, and never exceeded: a call that would is refused
 /// ([`Refusal`](crate::Refusal)).
 ///
+/// How to choose them, for R book events a second, a tick every T seconds and N connections:
+///
+/// - `events` at least R × (10 + T), since the log keeps ten seconds and is pruned at ticks alone, and what the lines hold beside it:
+///   R × (10 + T) for each line that may wait or be pending at a time, at most `held` + 8. Else [`Refusal::Events`].
+/// - `keys` at least the different prints of 30 + T seconds, `pairs` N times as many. Else [`Refusal::Prints`].
+/// - `held` at least R × (10 + T), or a line that lines up late fails before its ten seconds are over.
+/// - `lines` at least N and as many as may be replaced at a time: a failed line is one until it is dropped.
+///
+/// [`Refusal::Events`]: crate::Refusal::Events
+/// [`Refusal::Prints`]: crate::Refusal::Prints
+///
 /// A store has 64 + lines × (7 × held + 64) + 3 × events + 4 × keys + 4 × pairs words of eight bytes, and its output list seven
 /// words for each of lines × (2 × held + 8) + 1 records. Both are taken as zeroed memory, of which the system provides what is
 /// written.
@@ -32,9 +43,11 @@ pub struct Limits {
 }
 
 impl Default for Limits {
-    /// 16 lines, the original's 5,000 held messages a line, 131,072 events (16 full lines and 51,072 log entries, of which ten
-    /// seconds are kept), 16,384 print keys and 65,536 pairs (of the last thirty seconds). The store is then 10.3 MB and the
-    /// output list 9 MB at most.
+    /// 16 lines, the original's 5,000 held messages a line, 131,072 events, 16,384 print keys and 65,536 pairs. The store is then
+    /// 10.3 MB and the output list 9 MB at most.
+    ///
+    /// With a tick each second that is room for 11,900 book events a second while no line holds any, 4,600 while all 16 are full;
+    /// for 528 new prints a second over four connections, 132 over sixteen.
     fn default() -> Self {
         Limits {
             lines: 16,

@@ -1,6 +1,9 @@
 use crate::kept::Kept;
 use crate::store::{self, Record, Store, Told};
-use crate::{Applied, ConnId, EventKey, Expired, Limits, Lost, Refusal, Step};
+use crate::{
+    Applied, ConnId, Entry, EventKey, Expired, Limits, Lost, Reading, Refusal, Repeated, Step,
+};
+use std::marker::PhantomData;
 use std::time::{Duration, Instant};
 
 /// How far before its construction a market's time begins.
@@ -10,10 +13,16 @@ const BEFORE: Duration = Duration::from_secs(24 * 60 * 60);
 /// venue's order; each print as often as the connection that delivered it most often.
 ///
 /// It owns the words of its store and writes them by the proved calls alone. Of the host's messages it keeps a copy of those that
-/// the store holds, and of no others.
+/// the store holds, and of no others. What is to be applied it lists as the original does, an [`Applied`] for each copy of a print;
+/// [`MarketMerge::repeated`] makes it list a [`Repeated`] with the count of copies.
 ///
 /// A time is counted in whole milliseconds from a day before the construction; an earlier one counts as that. The original compares
 /// times more finely: a limit of ten seconds may be reached up to a millisecond earlier or later here.
+///
+/// # Panics
+/// Where a message's `clone` or `drop` panics in a call, that call's list is lost, so that the host's book misses what was in it. The
+/// market is then poisoned: every later call that changes it panics and says so, and a new market is needed. Queries still answer. A
+/// panic in the `same_view` of a tick comes before the tick, and changes nothing.
 ///
 /// ```
 /// use pollendrift::{EventKey, MarketMerge, Step};
@@ -32,10 +41,12 @@ const BEFORE: Duration = Duration::from_secs(24 * 60 * 60);
 /// assert_eq!(merge.book_event(2, key, &"a change", now), Step::Held);
 /// # Ok::<(), pollendrift::Refusal>(())
 /// ```
-pub struct MarketMerge<M> {
+pub struct MarketMerge<M, A = Applied<M>> {
     store: Store,
     kept: Kept<M>,
     zero: Instant,
+    poisoned: bool,
+    lists: PhantomData<fn() -> A>,
 }
 
 impl<M> MarketMerge<M> {
@@ -57,14 +68,79 @@ impl<M> MarketMerge<M> {
             store: Store::new(limits, start)?,
             kept: Kept::new(),
             zero: now.checked_sub(BEFORE).unwrap_or(now),
+            poisoned: false,
+            lists: PhantomData,
         })
     }
 
+    /// The same market, which lists a print once, with how often to apply it.
+    ///
+    /// ```
+    /// use pollendrift::{MarketMerge, Repeated};
+    /// let merge: MarketMerge<String, Repeated<String>> = MarketMerge::default().repeated();
+    /// ```
+    pub fn repeated(self) -> MarketMerge<M, Repeated<M>> {
+        MarketMerge {
+            store: self.store,
+            kept: self.kept,
+            zero: self.zero,
+            poisoned: self.poisoned,
+            lists: PhantomData,
+        }
+    }
+}
+
+impl<M> Default for MarketMerge<M> {
+    /// A market of [`Limits::default`].
+    fn default() -> Self {
+        Self::new(Limits::default()).expect("the default limits are in range")
+    }
+}
+
+impl<M, A> std::fmt::Debug for MarketMerge<M, A> {
+    fn fmt(&self, f: &mut std::fmt::Formatter<'_>) -> std::fmt::Result {
+        let reading = self.reading();
+        f.debug_struct("MarketMerge")
+            .field("log", &(reading.base..reading.end))
+            .field("lines", &reading.lines)
+            .field("keys", &reading.keys)
+            .field("pairs", &reading.pairs)
+            .field("limits", &reading.limits)
+            .field("poisoned", &self.poisoned)
+            .finish()
+    }
+}
+
+impl<M, A> MarketMerge<M, A> {
     #[inline]
     fn time(&self, now: Instant) -> u64 {
         let age = now.saturating_duration_since(self.zero);
         let whole = age.as_secs().saturating_mul(1_000);
         whole.saturating_add(age.subsec_millis() as u64)
+    }
+
+    #[inline]
+    fn check(&self) {
+        if self.poisoned {
+            poisoned();
+        }
+    }
+
+    /// A call that changes the market begins. If it unwinds, `end` is not reached, and the market stays poisoned.
+    #[inline]
+    fn begin(&mut self) {
+        self.check();
+        self.poisoned = true;
+    }
+
+    #[inline]
+    fn end(&mut self) {
+        self.poisoned = false;
+    }
+
+    /// Whether a call of this market panicked after it had changed the market (see 'Panics' of [`MarketMerge`]).
+    pub fn is_poisoned(&self) -> bool {
+        self.poisoned
     }
 
     /// Whether the connection is in line.
@@ -87,67 +163,98 @@ impl<M> MarketMerge<M> {
         self.kept.len()
     }
 
+    /// The log's numbers, how full the tables are, and each line's kind and next number: for tests and support.
+    pub fn reading(&self) -> Reading {
+        self.store.reading()
+    }
+
     /// The connection subscribed the market; its snapshots are due. What it held before is let go.
     ///
     /// # Errors
     /// [`Refusal::Lines`] for a new connection where all lines are taken.
     pub fn subscribe(&mut self, conn: ConnId, now: Instant) -> Result<(), Refusal> {
+        self.begin();
         let told = self.store.subscribe(conn, self.time(now));
-        if told.code == store::REFUSED {
-            return Err(Refusal::of(told.count));
-        }
-        self.kept.insert(conn);
-        self.kept.follow(&self.store);
-        Ok(())
-    }
-
-    /// The connection closed. Where it was the last in line, one that holds a snapshot takes over (see [`MarketMerge::promote`]).
-    pub fn drop_conn(&mut self, conn: ConnId, now: Instant) -> Lost<M> {
-        let told = self.store.drop_conn(conn, self.time(now));
-        let lost = self.lost(told);
-        self.kept.remove(conn);
-        self.kept.follow(&self.store);
-        lost
-    }
-
-    /// Where no connection is in line: the connection with the latest complete snapshot takes over, else the latest subscribed one
-    /// that holds part of one; of equals the lowest.
-    pub fn promote(&mut self, now: Instant) -> Lost<M> {
-        let told = self.store.promote(self.time(now));
-        let lost = self.lost(told);
-        self.kept.follow(&self.store);
-        lost
-    }
-
-    fn lost(&mut self, told: Told) -> Lost<M> {
-        match told.code {
-            store::KEPT => Lost::Kept,
-            store::GONE => Lost::Gone,
-            store::REBUILD => Lost::Rebuild(self.put_out(0, told.count as usize)),
-            _ => told.never(),
-        }
+        let done = if told.code == store::REFUSED {
+            Err(Refusal::of(told.count))
+        } else {
+            self.kept.insert(conn);
+            self.kept.follow(&self.store);
+            Ok(())
+        };
+        self.end();
+        done
     }
 
     /// The applied history is in doubt: nobody is in line until a connection that subscribes after now brings a snapshot, and every
     /// line that has not failed holds its next events to line up with that.
     pub fn reset(&mut self, now: Instant) {
+        self.begin();
         let told = self.store.reset(self.time(now));
         if told.code != store::DONE {
             told.never();
         }
         self.kept.follow(&self.store);
+        self.end();
+    }
+}
+
+#[cold]
+fn poisoned() -> ! {
+    panic!(
+        "this market is poisoned: an earlier call of it panicked, and the messages to apply that it would have listed are lost; \
+         make a new market and subscribe its connections again"
+    )
+}
+
+impl<M, A: Entry<M>> MarketMerge<M, A> {
+    /// The connection closed. Where it was the last in line, one that holds a snapshot takes over (see [`MarketMerge::promote`]).
+    pub fn drop_conn(&mut self, conn: ConnId, now: Instant) -> Lost<A> {
+        self.begin();
+        let told = self.store.drop_conn(conn, self.time(now));
+        self.kept.remove(conn);
+        let lost = self.lost(told);
+        self.end();
+        lost
     }
 
-    /// Upkeep, to be called from time to time: forgets old log entries and prints, lines connections up and ends those that could
+    /// Where no connection is in line: the connection with the latest complete snapshot takes over, else the latest subscribed one
+    /// that holds part of one; of equals the lowest.
+    pub fn promote(&mut self, now: Instant) -> Lost<A> {
+        self.begin();
+        let told = self.store.promote(self.time(now));
+        let lost = self.lost(told);
+        self.end();
+        lost
+    }
+
+    fn lost(&mut self, told: Told) -> Lost<A> {
+        let lost = match told.code {
+            store::KEPT => Lost::Kept,
+            store::GONE => Lost::Gone,
+            store::REBUILD => Lost::Rebuild(self.put_out(0, told.count as usize)),
+            _ => told.never(),
+        };
+        self.kept.follow(&self.store);
+        lost
+    }
+
+    /// Upkeep, to be called about once a second: forgets old log entries and prints, lines connections up and ends those that could
     /// not. `same_view(messages)` says whether a connection that got just these messages, in order, would show the applied book.
+    ///
+    /// Log entries older than ten seconds and prints that nobody delivered for thirty go at a tick and not before. A host that does
+    /// not tick comes to its limits, and its messages are refused ([`Refusal::Events`], [`Refusal::Prints`]).
     ///
     /// All views are asked before the tick, so `same_view` may be asked of a line where the original would not: one whose held
     /// events do not match the log, or that an earlier line's turn lines up or keeps waiting. An answer that is not needed changes
     /// nothing.
-    pub fn tick(&mut self, now: Instant, same_view: &dyn Fn(&[&M]) -> bool) -> Vec<Expired<M>> {
+    pub fn tick(&mut self, now: Instant, same_view: &dyn Fn(&[&M]) -> bool) -> Vec<Expired<A>> {
+        self.check();
         let t = self.time(now);
         let kept = &self.kept;
-        let (told, reported) = self.store.tick(t, |line| same_view(&kept.view(line)));
+        self.store.ask(t, |line| same_view(&kept.view(line)));
+        self.begin();
+        let (told, reported) = self.store.tick(t);
         if told.code != store::DONE {
             told.never();
         }
@@ -164,49 +271,34 @@ impl<M> MarketMerge<M> {
             });
         }
         self.kept.follow(&self.store);
+        self.end();
         expired
     }
 
     /// Records of held messages alone.
-    fn put_out(&mut self, from: usize, count: usize) -> Vec<Applied<M>> {
+    fn put_out(&mut self, from: usize, count: usize) -> Vec<A> {
         let kept = &mut self.kept;
-        applied(self.store.records(from, count), |number| kept.take(number))
+        listed(self.store.records(from, count), |number| kept.take(number))
     }
 }
 
 #[inline]
-fn applied<M>(
-    records: impl Iterator<Item = Record>,
+fn listed<M, A: Entry<M>>(
+    records: impl ExactSizeIterator<Item = Record>,
     mut message: impl FnMut(usize) -> M,
-) -> Vec<Applied<M>> {
-    let one = |record: Record| Applied {
-        conn: record.conn,
-        msg: message(record.message),
-        snapshot: record.snapshot,
-        repeat: record.times,
-    };
-    records.map(one).collect()
-}
-
-impl<M> Default for MarketMerge<M> {
-    /// A market of [`Limits::default`].
-    fn default() -> Self {
-        Self::new(Limits::default()).expect("the default limits are in range")
+) -> Vec<A> {
+    let mut out = Vec::with_capacity(records.len());
+    for record in records {
+        let msg = message(record.message);
+        A::list(&mut out, record.conn, msg, record.snapshot, record.times);
     }
+    out
 }
 
-impl<M> std::fmt::Debug for MarketMerge<M> {
-    fn fmt(&self, f: &mut std::fmt::Formatter<'_>) -> std::fmt::Result {
-        f.debug_struct("MarketMerge")
-            .field("lines", &self.store.lines())
-            .field("held_messages", &self.kept.len())
-            .finish_non_exhaustive()
-    }
-}
-
-impl<M: Clone> MarketMerge<M> {
+impl<M: Clone, A: Entry<M>> MarketMerge<M, A> {
     /// The connection's subscription snapshot of token `index`, 0 or 1.
-    pub fn snapshot(&mut self, conn: ConnId, index: usize, msg: &M, now: Instant) -> Step<M> {
+    pub fn snapshot(&mut self, conn: ConnId, index: usize, msg: &M, now: Instant) -> Step<A> {
+        self.begin();
         let t = self.time(now);
         let told = self.store.snapshot(conn, index as u64, self.kept.next(), t);
         self.step(told, conn, msg)
@@ -214,7 +306,8 @@ impl<M: Clone> MarketMerge<M> {
 
     /// The connection's next book event. A copy of the message is made only where it is held or applied.
     #[inline]
-    pub fn book_event(&mut self, conn: ConnId, key: EventKey, msg: &M, now: Instant) -> Step<M> {
+    pub fn book_event(&mut self, conn: ConnId, key: EventKey, msg: &M, now: Instant) -> Step<A> {
+        self.begin();
         let t = self.time(now);
         let told = self.store.book_event(conn, key, self.kept.next(), t);
         self.step(told, conn, msg)
@@ -223,37 +316,41 @@ impl<M: Clone> MarketMerge<M> {
     /// Any other message of the connection, such as a print: it is counted, and applied as often as the connection that delivered
     /// it most often.
     #[inline]
-    pub fn other(&mut self, conn: ConnId, key: EventKey, msg: &M, now: Instant) -> Step<M> {
+    pub fn other(&mut self, conn: ConnId, key: EventKey, msg: &M, now: Instant) -> Step<A> {
+        self.begin();
         let t = self.time(now);
         let told = self.store.print(conn, key, self.kept.next(), t);
         self.step(told, conn, msg)
     }
 
+    /// The end of a call that had a message of the next number.
     #[inline]
-    fn step(&mut self, told: Told, conn: ConnId, msg: &M) -> Step<M> {
+    fn step(&mut self, told: Told, conn: ConnId, msg: &M) -> Step<A> {
         let step = match told.code {
-            store::DUPLICATE => Step::Duplicate,
             store::APPLY => Step::Apply(self.put_out_with(told.count as usize, msg)),
-            store::HELD => {
-                self.kept.hold(&self.store, conn, msg);
-                return Step::Held;
-            }
+            store::DUPLICATE => Step::Duplicate,
+            store::HELD => Step::Held,
             store::FAILED => Step::Failed,
-            store::IGNORED => return Step::Ignored,
-            store::DIVERGED => return Step::Diverged,
-            store::REFUSED => return Step::Refused(Refusal::of(told.count)),
+            store::IGNORED => Step::Ignored,
+            store::DIVERGED => Step::Diverged,
+            store::REFUSED => Step::Refused(Refusal::of(told.count)),
             _ => told.never(),
         };
-        self.kept.follow(&self.store);
+        match step {
+            Step::Held => self.kept.hold(&self.store, conn, msg),
+            Step::Ignored | Step::Diverged | Step::Refused(_) => {}
+            _ => self.kept.follow(&self.store),
+        }
+        self.end();
         step
     }
 
-    /// Records of the call's own message, which has the next number, and of held ones.
+    /// Records of the call's own message and of held ones.
     #[inline]
-    fn put_out_with(&mut self, count: usize, msg: &M) -> Vec<Applied<M>> {
+    fn put_out_with(&mut self, count: usize, msg: &M) -> Vec<A> {
         let kept = &mut self.kept;
         let own = kept.next();
-        applied(self.store.records(0, count), |number| {
+        listed(self.store.records(0, count), |number| {
             if number == own {
                 msg.clone()
             } else {

@@ -1,6 +1,7 @@
 //! The store of one market with its lists, and the calls on it. Its words are read by docs/LAYOUT.md.
 mod reading;
 
+use crate::mapped::Words;
 use crate::{ffi, EventKey, Limits, Refusal};
 pub use reading::{Record, ALIGNED, REBUILT};
 
@@ -34,8 +35,8 @@ impl Told {
 /// The words of a market. They are private to this module, which writes them by the exported functions alone: setup makes a sound
 /// store, and every call leaves one. So they are a sound store at every call, and the calls need not test it.
 pub struct Store {
-    words: Vec<u64>,
-    out: Vec<u64>,
+    words: Words,
+    out: Words,
     reports: Vec<u64>,
     answers: Vec<u64>,
     /// Where the line areas start, and the words of one.
@@ -70,7 +71,7 @@ impl Store {
         if tried.count == Refusal::Limits.number() {
             return Err(Refusal::Limits);
         }
-        let mut words = vec![0; x.store_words()];
+        let mut words = Words::zeroed(x.store_words());
         let told = setup(&mut words, x, start);
         if told.code != DONE {
             told.never();
@@ -80,7 +81,7 @@ impl Store {
             areas: words.len() - x.lines as usize * area,
             area,
             words,
-            out: vec![0; x.output_words()],
+            out: Words::zeroed(x.output_words()),
             reports: vec![0; x.report_words()],
             answers: Vec::with_capacity(x.lines as usize),
         })
@@ -152,8 +153,8 @@ impl Store {
         self.told(|s, n, _, _, count| unsafe { ffi::owned_reset(s, n, t, count) })
     }
 
-    /// A tick with one view answer for each line, by rising connection. Gives the count of reports too.
-    pub fn tick(&mut self, t: u64, view: impl Fn(usize) -> bool) -> (Told, usize) {
+    /// Asks the views that a tick at `t` may need, one answer for each line, by rising connection.
+    pub fn ask(&mut self, t: u64, view: impl Fn(usize) -> bool) {
         let mut answers = std::mem::take(&mut self.answers);
         answers.clear();
         let asks = self.asks_views(t);
@@ -161,6 +162,10 @@ impl Store {
             (0..self.lines()).map(|line| (asks && self.asks_view(line, t) && view(line)) as u64),
         );
         self.answers = answers;
+    }
+
+    /// A tick with the answers that were just asked. Gives the count of reports too.
+    pub fn tick(&mut self, t: u64) -> (Told, usize) {
         let (mut count, mut reported) = (0, 0);
         // SAFETY: `words` is a sound store (see `Store`); its lists and both counts are apart from it and from each other.
         let code = unsafe {

@@ -1,5 +1,5 @@
 //! A million messages through the drop-in: it keeps those that the store holds and no others, and memory stays level.
-use pollendrift::{EventKey, Limits, MarketMerge, Step};
+use pollendrift::{Applied, EventKey, Limits, MarketMerge, Step};
 use std::alloc::{GlobalAlloc, Layout, System};
 use std::sync::atomic::{AtomicUsize, Ordering::Relaxed};
 use std::time::{Duration, Instant};
@@ -80,19 +80,19 @@ impl Round {
         EventKey::new(self.number, i)
     }
 
-    fn snapshots(&mut self, conn: u64) -> [Step<Message>; 2] {
+    fn snapshots(&mut self, conn: u64) -> [Step<Applied<Message>>; 2] {
         [0, 1].map(|token| {
             let msg = self.message();
             self.merge.snapshot(conn, token, &msg, self.now)
         })
     }
 
-    fn book(&mut self, conn: u64, i: u64) -> Step<Message> {
+    fn book(&mut self, conn: u64, i: u64) -> Step<Applied<Message>> {
         let msg = self.message();
         self.merge.book_event(conn, self.key(i), &msg, self.now)
     }
 
-    fn print(&mut self, conn: u64, i: u64) -> Step<Message> {
+    fn print(&mut self, conn: u64, i: u64) -> Step<Applied<Message>> {
         let msg = self.message();
         self.merge.other(conn, self.key(i), &msg, self.now)
     }
@@ -146,8 +146,7 @@ impl Round {
                 let Step::Apply(out) = second else {
                     panic!("it lines up, and its prints come out")
                 };
-                assert_eq!(out.len() as u64, HELD);
-                assert!(out.iter().all(|applied| applied.repeat == 2));
+                assert_eq!(out.len() as u64, 2 * HELD);
             }
             1 => self.merge.subscribe(late, self.now).expect("it has a line"),
             2 => drop(self.merge.drop_conn(late, self.now)),

@@ -1,5 +1,5 @@
 //! Each refusal that a host can meet, with document 01's number. Number 8 takes 2^32 deliveries and is not provoked.
-use pollendrift::{EventKey, Limits, MarketMerge, Refusal, Step};
+use pollendrift::{Applied, EventKey, Limits, MarketMerge, Refusal, Step};
 use std::time::Instant;
 
 const SMALL: Limits = Limits {
@@ -26,7 +26,7 @@ fn market(limits: Limits, start: u64, now: Instant) -> MarketMerge<String> {
 }
 
 /// Refused, and nothing was kept.
-fn refused(m: &MarketMerge<String>, step: Step<String>, refusal: Refusal, held: usize) {
+fn refused(m: &MarketMerge<String>, step: Step<Applied<String>>, refusal: Refusal, held: usize) {
     assert_eq!(step, Step::Refused(refusal));
     assert_eq!(m.held_messages(), held);
     assert!(m.in_line(1));

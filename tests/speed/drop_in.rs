@@ -6,11 +6,11 @@ pub struct DropIn(MarketMerge<u64>);
 
 #[inline]
 fn sum(out: Vec<Applied<u64>>) -> u64 {
-    out.iter().map(|a| a.msg * a.repeat).sum()
+    out.iter().map(|a| a.msg).sum()
 }
 
 #[inline]
-fn step(step: Step<u64>) -> u64 {
+fn step(step: Step<Applied<u64>>) -> u64 {
     match step {
         Step::Apply(out) => calls::APPLY + sum(out),
         Step::Duplicate => calls::DUPLICATE,
@@ -22,7 +22,7 @@ fn step(step: Step<u64>) -> u64 {
     }
 }
 
-fn lost(lost: Lost<u64>) -> u64 {
+fn lost(lost: Lost<Applied<u64>>) -> u64 {
     match lost {
         Lost::Kept => calls::KEPT,
         Lost::Gone => calls::GONE,
@@ -30,7 +30,7 @@ fn lost(lost: Lost<u64>) -> u64 {
     }
 }
 
-fn expired(expired: Expired<u64>) -> u64 {
+fn expired(expired: Expired<Applied<u64>>) -> u64 {
     match expired {
         Expired::Aligned(_, out) => sum(out),
         Expired::Rebuild(_, out) => sum(out),

@@ -67,7 +67,7 @@ fn kilobytes(bytes: usize) -> String {
 }
 
 pub fn print() {
-    println!("\n| kB after the load | shipped | at most | ordered | store's words in use | store | drop-in |");
+    println!("\n| kB after the load | shipped | at most | ordered | store's words in use | store | drop-in's heap |");
     println!("|---|---|---|---|---|---|---|");
     for (_, make) in loads::all().iter().filter(|(name, _)| LOADS.contains(&name.as_str())) {
         let load = make();

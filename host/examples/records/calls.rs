@@ -1,5 +1,5 @@
 //! Call lists as text (tests/convert.py says the form), run on a market.
-use pollendrift::{Applied, EventKey, Expired, Limits, Lost, MarketMerge, Step};
+use pollendrift::{EventKey, Expired, Limits, Lost, MarketMerge, Repeated, Step};
 use std::collections::BTreeSet;
 use std::time::{Duration, Instant};
 
@@ -11,9 +11,12 @@ pub struct Message {
     number: u64,
 }
 
+/// What is to be applied, with the count of copies that the replay program writes.
+type Put = Repeated<Message>;
+
 /// A market with the limits of the replay program, the connections that have a line there, and the instant of its time 0.
 pub struct Desk {
-    merge: MarketMerge<Message>,
+    merge: MarketMerge<Message, Put>,
     lines: BTreeSet<u64>,
     zero: Instant,
 }
@@ -28,7 +31,9 @@ impl Desk {
             pairs: 128,
         };
         Desk {
-            merge: MarketMerge::new(limits).expect("the limits are in range"),
+            merge: MarketMerge::new(limits)
+                .expect("the limits are in range")
+                .repeated(),
             lines: BTreeSet::new(),
             zero: Instant::now(),
         }
@@ -88,7 +93,7 @@ fn numbers(words: &[&str]) -> Vec<u64> {
     parsed.collect::<Result<_, _>>().unwrap_or_default()
 }
 
-fn put(applied: Applied<Message>) -> String {
+fn put(applied: Put) -> String {
     let Message { kind, key, number } = applied.msg;
     format!(
         "put {} {kind} {} {} {number} {}",
@@ -96,13 +101,13 @@ fn put(applied: Applied<Message>) -> String {
     )
 }
 
-fn with_records(answer: String, out: Vec<Applied<Message>>) -> Vec<String> {
+fn with_records(answer: String, out: Vec<Put>) -> Vec<String> {
     std::iter::once(answer)
         .chain(out.into_iter().map(put))
         .collect()
 }
 
-fn step(step: Step<Message>) -> Vec<String> {
+fn step(step: Step<Put>) -> Vec<String> {
     match step {
         Step::Apply(out) => with_records("apply".into(), out),
         Step::Duplicate => vec!["duplicate".into()],
@@ -114,7 +119,7 @@ fn step(step: Step<Message>) -> Vec<String> {
     }
 }
 
-fn lost(lost: Lost<Message>) -> Vec<String> {
+fn lost(lost: Lost<Put>) -> Vec<String> {
     match lost {
         Lost::Kept => vec!["kept".into()],
         Lost::Gone => vec!["gone".into()],
@@ -122,7 +127,7 @@ fn lost(lost: Lost<Message>) -> Vec<String> {
     }
 }
 
-fn ticked(expired: Vec<Expired<Message>>) -> Vec<String> {
+fn ticked(expired: Vec<Expired<Put>>) -> Vec<String> {
     let report = |e| match e {
         Expired::Aligned(conn, out) => with_records(format!("aligned {conn}"), out),
         Expired::Rebuild(conn, out) => with_records(format!("rebuild {conn}"), out),

@@ -1,7 +1,8 @@
 //! What the drop-in reads of a store and of its lists.
 use super::Store;
 use crate::limits::{RECORD, REPORT};
-use crate::QUIET;
+use crate::reading::{Kind, LineReading, Reading};
+use crate::{Limits, QUIET};
 
 /// A put-out record, in the parts that a host is given.
 pub struct Record {
@@ -23,6 +24,7 @@ pub const ALIGNED: u64 = 0;
 pub const REBUILT: u64 = 1;
 
 /// Kinds of lines. Those up to pending hold items.
+const WAITING: u64 = 0;
 const PENDING: u64 = 1;
 const IN_LINE: u64 = 2;
 
@@ -58,6 +60,47 @@ impl Store {
             (0..items).map(item).collect(),
             (0..prints).map(print).collect(),
         )
+    }
+
+    /// Limits, log and lines, by docs/LAYOUT.md.
+    pub fn reading(&self) -> Reading {
+        let w = &self.words;
+        Reading {
+            limits: Limits {
+                lines: w[0],
+                held: w[1],
+                events: w[2],
+                keys: w[3],
+                pairs: w[4],
+            },
+            base: w[5],
+            end: w[5] + w[6],
+            keys: w[10],
+            pairs: w[11],
+            lines: (0..self.lines())
+                .map(|line| self.line_reading(line))
+                .collect(),
+        }
+    }
+
+    fn line_reading(&self, line: usize) -> LineReading {
+        let area = self.area(line);
+        let (items, prints) = self.held(line);
+        let kind = match area[1] {
+            WAITING => Kind::Waiting,
+            PENDING => Kind::Pending,
+            IN_LINE => Kind::InLine {
+                next: area[6],
+                due: [area[7] != 0, area[8] != 0],
+            },
+            _ => Kind::Failed,
+        };
+        LineReading {
+            conn: area[0],
+            kind,
+            items,
+            prints,
+        }
     }
 
     fn held_limit(&self) -> usize {

@@ -1,6 +1,8 @@
 //! The drop-in beside the original on random call lists, through the public API alone. Needs the original: FEED_MERGE is the path of
 //! feed_merge.rs, which tests/oracle/edit.rs makes to compile alone. LISTS and SEED choose the lists.
 #[cfg(original)]
+mod desks;
+#[cfg(original)]
 mod lists;
 #[cfg(original)]
 #[allow(dead_code, clippy::all)]
@@ -13,6 +15,62 @@ mod merge {
 mod shim;
 #[cfg(original)]
 mod sides;
+
+/// The host of desk.rs over the original.
+#[cfg(original)]
+#[allow(clippy::let_unit_value)]
+mod original_desk {
+    use crate::merge::{Applied, EventKey, Expired, Lost, MarketMerge, Step};
+    use crate::shim::Instant;
+    include!("desk.rs");
+}
+
+/// The same host over the drop-in.
+mod drop_in_desk {
+    mod feed_merge {
+        pollendrift::drop_in!(u64);
+    }
+    pub use feed_merge::MarketMerge;
+    use feed_merge::{Applied, EventKey, Expired, Lost, Step};
+    use std::time::Instant;
+    include!("desk.rs");
+}
+
+/// Connections 1 and 2; 2 waits, and delivers a print of five contracts twice before 1 does so once. Both copies count.
+#[test]
+fn each_copy_of_a_print_counts() {
+    let mut desk = drop_in_desk::Desk::new(drop_in_desk::MarketMerge::default());
+    let (now, key) = (std::time::Instant::now(), pollendrift::EventKey::new(9, 9));
+    desk.subscribe(2, now);
+    desk.print(2, key, 5, now);
+    desk.print(2, key, 5, now);
+    assert_eq!(desk.volume, 0);
+    desk.snapshot(2, 0, 1, now);
+    assert_eq!(desk.volume, 10);
+    desk.subscribe(1, now);
+    desk.print(1, key, 5, now);
+    desk.book_event(2, key, 2, now);
+    desk.drop_conn(1, now);
+    desk.promote(now);
+    desk.reset(now);
+    desk.tick(now);
+    assert_eq!((desk.volume, desk.book), (10, vec![1, 2]));
+}
+
+#[cfg(original)]
+#[test]
+fn one_host_over_both() {
+    let (lists, mut traded) = (500, 0);
+    for i in 0..lists {
+        match desks::run(&mut lists::Random::new(77 + i)) {
+            Ok(volume) => traded += volume,
+            Err(why) => panic!("list {i}: {why}"),
+        }
+    }
+    say(&format!(
+        "a host that counts volume: the same over both on {lists} lists, {traded} contracts"
+    ));
+}
 
 /// Prints although a test's output is captured.
 fn say(text: &str) {

@@ -67,9 +67,9 @@ impl Drop for Message {
 type Put = (u64, u64, bool);
 
 fn puts(out: &[Applied<Message>]) -> Vec<Put> {
-    let repeated =
-        |a: &Applied<Message>| vec![(a.conn, a.msg.number, a.snapshot); a.repeat as usize];
-    out.iter().flat_map(repeated).collect()
+    out.iter()
+        .map(|a| (a.conn, a.msg.number, a.snapshot))
+        .collect()
 }
 
 fn same_puts(out: &[Applied<Message>], other: &[merge::Applied]) -> bool {
@@ -78,7 +78,7 @@ fn same_puts(out: &[Applied<Message>], other: &[merge::Applied]) -> bool {
         .eq(other.iter().map(|a| (a.conn, a.msg, a.snapshot)))
 }
 
-fn same_step(step: &Step<Message>, other: &merge::Step) -> bool {
+fn same_step(step: &Step<Applied<Message>>, other: &merge::Step) -> bool {
     match (step, other) {
         (Step::Apply(a), merge::Step::Apply(b)) => same_puts(a, b),
         (Step::Duplicate, merge::Step::Duplicate)
@@ -90,7 +90,7 @@ fn same_step(step: &Step<Message>, other: &merge::Step) -> bool {
     }
 }
 
-fn same_lost(lost: &Lost<Message>, other: &merge::Lost) -> bool {
+fn same_lost(lost: &Lost<Applied<Message>>, other: &merge::Lost) -> bool {
     match (lost, other) {
         (Lost::Kept, merge::Lost::Kept) | (Lost::Gone, merge::Lost::Gone) => true,
         (Lost::Rebuild(a), merge::Lost::Rebuild(b)) => same_puts(a, b),
@@ -98,8 +98,8 @@ fn same_lost(lost: &Lost<Message>, other: &merge::Lost) -> bool {
     }
 }
 
-fn same_reports(expired: &[Expired<Message>], other: &[merge::Expired]) -> bool {
-    let same = |pair: (&Expired<Message>, &merge::Expired)| match pair {
+fn same_reports(expired: &[Expired<Applied<Message>>], other: &[merge::Expired]) -> bool {
+    let same = |pair: (&Expired<Applied<Message>>, &merge::Expired)| match pair {
         (Expired::Aligned(c, a), merge::Expired::Aligned(d, b)) => c == d && same_puts(a, b),
         (Expired::Rebuild(c, a), merge::Expired::Rebuild(d, b)) => c == d && same_puts(a, b),
         (Expired::Failed(c), merge::Expired::Failed(d)) => c == d,
@@ -124,9 +124,11 @@ pub fn run(random: &mut Random, seen: &mut Seen) -> Result<u64, String> {
     let setup = lists::setup(random);
     let length = random.between(10, 250);
     let mut maker = Maker::new(random, &setup);
-    let mut original = merge::MarketMerge::default();
-    original.max_held = setup.limits.held as usize;
-    original.base = setup.start;
+    let original = merge::MarketMerge {
+        max_held: setup.limits.held as usize,
+        base: setup.start,
+        ..Default::default()
+    };
     let mut sides = Sides {
         setup: &setup,
         drop_in: MarketMerge::with_start(setup.limits, setup.start).expect("limits in range"),
@@ -204,7 +206,7 @@ impl Sides<'_> {
     /// A refused call is not made on the original.
     fn step(
         &mut self,
-        step: Step<Message>,
+        step: Step<Applied<Message>>,
         call: impl Fn(&mut merge::MarketMerge) -> merge::Step,
     ) -> Result<(), String> {
         match &step {
@@ -223,7 +225,7 @@ impl Sides<'_> {
 
     fn lost(
         &mut self,
-        lost: Lost<Message>,
+        lost: Lost<Applied<Message>>,
         call: impl Fn(&mut merge::MarketMerge) -> merge::Lost,
     ) -> Result<(), String> {
         match &lost {
@@ -290,7 +292,7 @@ impl Sides<'_> {
         if out.len() > 1 {
             self.see("several put out".into());
         }
-        if out.iter().any(|a| a.repeat > 1) {
+        if puts(out).windows(2).any(|two| two[0] == two[1]) {
             self.see("a print repeated".into());
         }
     }
