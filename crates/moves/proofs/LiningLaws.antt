@@ -3,7 +3,7 @@ use mathlib.Core.Path.{_≡_, refl, sym, ap, _∙_}
 use mathlib.Core.Logic.{_≢_}
 use mathlib.Core.List.{List, map}
 use mathlib.Core.Option.{Option, none, some}
-use mathlib.Core.Bool.{Bool, true, false, not, _||_, cond}
+use mathlib.Core.Bool.{Bool, true, false, _||_, cond}
 use Prim.Native.Nat.{ℕ, suc, _+_, _-_, _≤_, _<_}
 use native.Mathlib.Nat.{sub-zero}
 use native.Mathlib.Numerals.{add-one}
@@ -17,10 +17,10 @@ use Rattle.rules.specs.Lines.{Line, Waiting, Pending, InLine, Failed, Market, c
 use Rattle.rules.specs.Place as Rules
 use Rattle.rules.specs.Place.{alignment, counts, places}
 use Rattle.rules.specs.Entering.{Work, begin, aligns, lineUp, tryLineUp, round, sweep, pendings}
-use Rattle.rules.proofs.Tests.{by-maybe, eqb-false, none≢some}
+use Rattle.rules.proofs.Tests.{by-maybe, eqb-other, eqb-same, none≢some}
 use Rattle.rules.proofs.ListLaws.{each-append, each-count, each-keep, each-map, only-in}
 use Rattle.rules.proofs.Moves.{alignment-fits}
-use Rattle.rules.proofs.Loops.{lineUp-lines, round-pendings, sweep-loop}
+use Rattle.rules.proofs.Loops.{lineUp-lines, round-pendings, sweep-loop, sweep-idle}
 use Rattle.rules.proofs.SoundMoves.{tryLineUp-sound, round-sound}
 use Rattle.place.specs.declared.Place.{Place}
 use Rattle.place.specs.declared.Place.the-variants as Place
@@ -170,59 +170,56 @@ round-ready {w} t d y r = ready-then (round (lineCount w) 0 t) (λ Z k m s. roun
 
 -- ---- the sweep
 
-cond-not : {A : Type 0} (b : Bool) (x y : A) → cond b x y ≡ cond (not b) y x
-cond-not true x y = refl
-cond-not false x y = refl
-
--- the words w became w₁ in the sweep at t, with so many lines pending; again: it goes on
-pub record SweepTo (t : ℕ) (w v : List ℕ) (n : ℕ) (w₁ v₁ : List ℕ) (n₁ p : ℕ) (again : Bool) : Type 0 where
+-- the words w became w₁ in the sweep at t, with so many lines pending, and what is left of it is a sweep
+pub record SweepTo (t : ℕ) (w v : List ℕ) (n : ℕ) (w₁ v₁ : List ℕ) (n₁ p : ℕ) : Type 0 where
   pub ready : Ready w₁ v₁ n₁
   pub size : length w₁ ≡ length w
   pub room : length v₁ ≡ length v
   pub pending : p ≡ pendings (marketOf w₁ .lines)
-  pub left : Left (sweep t) (λ k. cond again (sweep t k) k) w v n w₁ v₁ n₁
+  pub left : Left (sweep t) (sweep t) w v n w₁ v₁ n₁
 
 -- one round of it
 module _ {w₁ v₁ : List ℕ} {n₁ : ℕ} {w₂ v₂ : List ℕ} {n₂ : ℕ} (t : ℕ) (d : Does (round (lineCount w₁) 0 t) w₁ v₁ n₁ w₂ v₂ n₂)
     {p q : ℕ} (e : p ≡ pendings (marketOf w₁ .lines)) (f : q ≡ pendings (marketOf w₂ .lines)) where
-  sweep-step : (k : Work) → k .market ≡ marketOf w₁ → sweep t k ≡ cond (not (eqb q p)) (sweep t (round (lineCount w₁) 0 t k)) (round (lineCount w₁) 0 t k)
+  sweep-step : (k : Work) → k .market ≡ marketOf w₁ → sweep t k ≡ cond (eqb q p) (round (lineCount w₁) 0 t k) (sweep t (round (lineCount w₁) 0 t k))
   sweep-step k m =
       let k₁ = round (lineCount w₁) 0 t k in
       let a : length (k .market .lines) ≡ lineCount w₁ = ap (λ (x : Market). length (x .lines)) m ∙ lines-count w₁ in
       let b : pendings (k .market .lines) ≡ p = ap (λ (x : Market). pendings (x .lines)) m ∙ sym e in
       let c : pendings (k₁ .market .lines) ≡ q = ap (λ (x : Market). pendings (x .lines)) (sym (d k m .moved .market)) ∙ sym f in
-      sweep-loop t k k₁ (ap (λ (x : ℕ). round x 0 t k) a)
-      ∙ (λ z. cond (eqb (c z) (b z)) k₁ (sweep t k₁)) ∙ cond-not (eqb q p) k₁ (sweep t k₁)
+      sweep-loop t k k₁ (ap (λ (x : ℕ). round x 0 t k) a) ∙ (λ z. cond (eqb (c z) (b z)) k₁ (sweep t k₁))
 
-  pub sweep-falls : q ≤ p
-  sweep-falls =
+  pub sweep-less : q ≢ p → q < p
+  sweep-less h =
       let k = begin (marketOf w₁) in
       let a = ap (λ (x : Market). pendings (x .lines)) (d k refl .moved .market) in
       let b = round-pendings (lineCount w₁) 0 t k in
       omega arith
 
-  pub sweep-on : {w v : List ℕ} {n : ℕ} {again : Bool} → Ready w v n → again ≡ true → length w₂ ≡ length w₁ → length v₂ ≡ length v₁
-      → SweepTo t w v n w₁ v₁ n₁ p again → SweepTo t w v n w₂ v₂ n₂ q (not (eqb q p))
-  sweep-on {w} {v} {n} {again} r o z y a =
-      let h = r .room in
-      record {
-        ready = round-ready t d y (a .ready);
-        size = z ∙ a .size;
-        room = y ∙ a .room;
-        pending = f;
-        left = left-then (sweep t) (λ k. cond again (sweep t k) k) (λ k. cond (not (eqb q p)) (sweep t k) k) (round (lineCount w₁) 0 t) (omega arith) (a .left) d
-            (λ k m. ap (λ (b : Bool). cond b (sweep t k) k) o ∙ sweep-step k m);
-      }
+  module _ {w v : List ℕ} {n : ℕ} (r : Ready w v n) (a : SweepTo t w v n w₁ v₁ n₁ p) where
+    -- what is left of the sweep behind it
+    sweep-left : (b : Bool) → eqb q p ≡ b → Left (sweep t) (λ k. cond b k (sweep t k)) w v n w₂ v₂ n₂
+    sweep-left b g =
+        let h = r .room in
+        left-then (sweep t) (sweep t) (λ k. cond b k (sweep t k)) (round (lineCount w₁) 0 t) (omega arith) (a .left) d
+        (λ k m. sweep-step k m ∙ ap (λ (x : Bool). cond x (round (lineCount w₁) 0 t k) (sweep t (round (lineCount w₁) 0 t k))) g)
 
-pub sweep-less : (p q : ℕ) (again : Bool) → q ≤ p → again ≡ true → cond (not (eqb q p)) (q + 1) 0 < cond again (p + 1) 0
-sweep-less p q again h e = rw e (go (eqb q p) refl)
-  where
-    go : (b : Bool) → eqb q p ≡ b → cond (not b) (q + 1) 0 < p + 1
-    go true f = omega arith
-    go false f = let n : q ≢ p = eqb-false f in omega arith
+    -- it lined somebody up
+    pub sweep-on : q ≢ p → length w₂ ≡ length w₁ → length v₂ ≡ length v₁ → SweepTo t w v n w₂ v₂ n₂ q
+    sweep-on h z y = record { ready = round-ready t d y (a .ready); size = z ∙ a .size; room = y ∙ a .room; pending = f; left = sweep-left false (eqb-other h) }
 
-pub sweep-start : {w v : List ℕ} {n p : ℕ} (t : ℕ) → Ready w v n → p ≡ pendings (marketOf w .lines) → SweepTo t w v n w v n p true
+    -- it lined nobody up
+    pub sweep-stops : q ≡ p → Does (sweep t) w v n w₂ v₂ n₂
+    sweep-stops h = left-done (sweep t) (λ k. k) (sweep-left true (ap (λ (x : ℕ). eqb x p) h ∙ eqb-same p)) (λ k. refl)
+
+pub sweep-start : {w v : List ℕ} {n p : ℕ} (t : ℕ) → Ready w v n → p ≡ pendings (marketOf w .lines) → SweepTo t w v n w v n p
 sweep-start t r e = record { ready = r; size = refl; room = refl; pending = e; left = left-start (sweep t) (r .sound .sized) }
 
-pub sweep-done : {w v : List ℕ} {n : ℕ} {w₁ v₁ : List ℕ} {n₁ p : ℕ} {again : Bool} (t : ℕ) → again ≡ false → SweepTo t w v n w₁ v₁ n₁ p again → Does (sweep t) w v n w₁ v₁ n₁
-sweep-done {again} t e a = left-done (sweep t) (λ k. cond again (sweep t k) k) (a .left) (λ k. ap (λ (b : Bool). cond b (sweep t k) k) e)
+-- nobody is pending
+pub sweep-done : {w v : List ℕ} {n : ℕ} {w₁ v₁ : List ℕ} {n₁ p : ℕ} (t : ℕ) → Ready w v n → p ≤ 0 → SweepTo t w v n w₁ v₁ n₁ p → Does (sweep t) w v n w₁ v₁ n₁
+sweep-done {w₁ = w₁} t r h a =
+    let o = r .room in
+    left-done (sweep t) (λ k. k)
+    (left-then (sweep t) (sweep t) (λ k. k) (λ k. k) (omega arith) (a .left) (does-none (a .ready .sound .sized))
+    (λ k m. sweep-idle t k (let b = a .pending in let c = ap (λ (x : Market). pendings (x .lines)) m in omega arith)))
+    (λ k. refl)

@@ -4,7 +4,7 @@ use place::Place;
 use rules::Item;
 ghost use mathlib.Core.Path.{_≡_};
 ghost use mathlib.Core.List.{[], _∷_};
-ghost use mathlib.Core.Bool.{false, true};
+ghost use mathlib.Core.Bool.{false};
 ghost use Prim.Native.Nat.{_+_, _-_, _<_};
 ghost use lib.ListN.{length, drop};
 ghost use Rattle.rules.specs.Lines.{connAt, itemsOf, events};
@@ -99,18 +99,19 @@ fn round(s: &mut [u64], out: &mut [u64], n: usize, t: u64) -> usize
     m
 }
 
-// Rounds until one lines nobody up.
+// Rounds until one lines nobody up, or nobody is pending.
 pub fn align_pending(s: &mut [u64], out: &mut [u64], n: usize, t: u64) -> usize
     requires { ⌜ Ready (now s) (now out) n ⌝ }
     ensures { λ r. ⌜ Does (sweep t) (now (s .entry)) (now (out .entry)) n (now (s .exit)) (now (out .exit)) r ⌝ }
 {
     let mut m = n;
     let mut pending = store::conns::pendings(s);
-    let mut again = true;
-    while again {
+    while 0 < pending {
         m = round(s, out, m, t);
         let left = store::conns::pendings(s);
-        again = left != pending;
+        if left == pending {
+            return m;
+        }
         pending = left;
     }
     m

@@ -16,7 +16,7 @@ use Rattle.rules.specs.Prints.{appliedIn, applyPrint, deliveredIn}
 use Rattle.rules.specs.Lines.{Connection, Failed, InLine, Line, Pending, Waiting, connAt, events, isPending, itemsOf, nobody, setConn, withPrints}
 use Rattle.rules.specs.Place.{Place}
 use Rattle.rules.specs.Entering.{Work, aligns, enter, lineUp, noteEntry, onMarket, pendings, pushAll, putItems, putOut, release, round, rounds, sweep, takeOver, tryLineUp}
-use Rattle.rules.proofs.Tests.{by-cond, by-maybe, eqb-false, ff≢tt}
+use Rattle.rules.proofs.Tests.{by-cond, by-maybe, eqb-false, eqb-same, ff≢tt}
 use Rattle.rules.proofs.Moves.{pushAll-grown, putItems-grown}
 
 pub release-lines : (c : ℕ) (hs : List (Key × ℕ)) (w : Work) → (release c hs w) .market .lines ≡ w .market .lines
@@ -87,6 +87,22 @@ unfolding round
 round-pendings zero i now w = omega arith
 round-pendings (suc n) i now w = let a = round-pendings n (suc i) now (tryLineUp false i now w) in let b = tryLineUp-pendings i now w in omega arith
 
+-- where nobody is pending, nobody lines up
+tryLineUp-idle : (i now : ℕ) (w : Work) → pendings (w .market .lines) ≡ 0 → tryLineUp false i now w ≡ w
+unfolding tryLineUp
+tryLineUp-idle i now w z = go ((connAt i (w .market)) .line) refl
+  where
+    go : (l : Line) → (connAt i (w .market)) .line ≡ l → maybe w (λ p. lineUp i now p w) (aligns false l (w .market)) ≡ w
+    go (Waiting is since) e = refl
+    go (InLine n a b) e = refl
+    go Failed e = refl
+    go (Pending is at since) e = absurd (let q = pendings-entered (w .market .lines) i 0 false false (ap isPending e) in omega arith)
+
+round-idle : (n i now : ℕ) (w : Work) → pendings (w .market .lines) ≡ 0 → round n i now w ≡ w
+unfolding round
+round-idle zero i now w z = refl
+round-idle (suc n) i now w z = ap (λ (x : Work). round n (suc i) now x) (tryLineUp-idle i now w z) ∙ round-idle n (suc i) now w z
+
 -- rounds enough are as good as more
 pub rounds-enough : (n n′ now : ℕ) (w : Work) → pendings (w .market .lines) < n → pendings (w .market .lines) < n′ → rounds n now w ≡ rounds n′ now w
 unfolding rounds
@@ -120,3 +136,9 @@ sweep-loop now w w′ e = subst (λ z. sweep now w ≡ cond (eqb (pendings (z .m
         let a = pendings-le (w .market .lines) in
         let b = pendings-le (z .market .lines) in
         rounds-enough (length (w .market .lines)) (suc (length (z .market .lines))) now z (omega arith) (omega arith)
+
+-- a sweep does nothing where nobody is pending
+pub sweep-idle : (now : ℕ) (w : Work) → pendings (w .market .lines) ≡ 0 → sweep now w ≡ w
+sweep-idle now w z =
+    let p = pendings (w .market .lines) in
+    sweep-loop now w w (round-idle (length (w .market .lines)) 0 now w z) ∙ ap (λ (b : Bool). cond b w (sweep now w)) (eqb-same p)
