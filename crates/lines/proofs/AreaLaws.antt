@@ -18,7 +18,7 @@ use Rattle.words.specs.Words.{part, back, tab}
 use Rattle.words.proofs.Parts.{Loan, getD-part, part-length, length-back, part-ext, part-same, part-after, back-below, back-above, back-in, back-start}
 use Rattle.words.proofs.Tab.{getD-tab, tab-ext, tab-snoc}
 use Rattle.place.specs.Items.{itemsIn, kindOf, Room}
-use Rattle.place.proofs.Items.{any-here, any-over, any-end}
+use Rattle.words.proofs.Lists.{any-here, any-over, any-end}
 use Rattle.rules.specs.declared.Item.{Item}
 use Rattle.lines.specs.declared.Line.{Line}
 use Rattle.lines.specs.declared.Line.the-variants as Line

@@ -3,3 +3,4 @@ pub mod HeldLaws
 pub mod StepLaws
 pub mod AreaLaws
 pub mod SoundLaws
+pub mod CopyLaws

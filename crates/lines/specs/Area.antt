@@ -3,14 +3,14 @@
 use mathlib.Core.Path.{_≡_}
 use mathlib.Core.List.{List, [], _∷_}
 use mathlib.Core.Bool.{Bool, true, false}
-use Prim.Native.Nat.{ℕ, zero, suc, _+_, _*_, _≤_}
+use Prim.Native.Nat.{ℕ, zero, suc, _+_, _*_, _≤_, _<_}
 use lib.ListN.{length, getD}
 use Rattle.rules.specs.declared.Stamp.{Stamp}
 use Rattle.rules.specs.declared.Stamp.the-variants as Stamp
 use Rattle.rules.specs.Quantities.{Key, key}
 use Rattle.rules.specs.Lines as Rules
 use Rattle.rules.specs.Lines.{Connection}
-use Rattle.words.specs.Words.{part, tab}
+use Rattle.words.specs.Words.{part, tab, Apart}
 use Rattle.lines.specs.declared.Line.{Line}
 use Rattle.lines.specs.declared.Line.the-variants as Line
 use Rattle.lines.specs.Line.{lineOf}
@@ -98,3 +98,28 @@ pub record Fit (h : ℕ) (w : List ℕ) : Type 0 where
   pub size : length w ≡ 7 * h + 64
   pub items : length (Rules.itemsOf (connOf h w .line)) ≤ h + 8
   pub prints : printCount w ≤ h
+
+-- ---- an area copied
+
+-- the area at a among the words w
+abbrev pub areaAt : ℕ → ℕ → List ℕ → List ℕ
+areaAt h a w = part a (a + (7 * h + 64)) w
+
+-- the areas at `from` and at `to` lie inside the words, apart from each other
+pub record TwoAreas (h from to : ℕ) (w : List ℕ) : Type 0 where
+  pub apart : Apart from to (7 * h + 64)
+  pub source : from + (7 * h + 64) ≤ length w
+  pub target : to + (7 * h + 64) ≤ length w
+
+-- the first r of m words hold the first n, or all where there are fewer than n
+pub record Enough (n m r : ℕ) : Type 0 where
+  pub inside : r ≤ m
+  pub all : (j : ℕ) → j < n → j < m → j < r
+
+-- the area at `to` in v says what the one at `from` says in w, with the same word for the kind; all words outside it stay
+pub record AreaCopied (h from to : ℕ) (w v : List ℕ) : Type 0 where
+  pub size : length v ≡ length w
+  pub conn : connOf h (areaAt h to v) ≡ connOf h (areaAt h from w)
+  pub kind : getD (areaAt h to v) 1 0 ≡ getD (areaAt h from w) 1 0
+  pub below : (j : ℕ) → j < to → getD v j 0 ≡ getD w j 0
+  pub above : (j : ℕ) → to + (7 * h + 64) ≤ j → getD v j 0 ≡ getD w j 0

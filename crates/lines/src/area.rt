@@ -14,7 +14,8 @@ ghost use Rattle.rules.specs.Sound.{Known};
 ghost use Rattle.words.specs.Words.{back, Says};
 ghost use Rattle.place.specs.Items.{kindOf, itemsIn};
 ghost use Rattle.lines.specs.Line.{lineOf, heldOf, holding};
-ghost use Rattle.lines.specs.Area.{flagOf, lineIn, lineWords, headLine, printIn, printsIn, itemWords, printCount, noPrint, connOf, withLine, withHeld, Fit};
+ghost use Rattle.lines.specs.Area.{flagOf, lineIn, lineWords, headLine, printIn, printsIn, itemWords, printCount, noPrint};
+ghost use Rattle.lines.specs.Area.{connOf, withLine, withHeld, Fit, TwoAreas, Enough, AreaCopied};
 ghost use Rattle.lines.specs.AreaSound.{LineFits, AreaSound};
 
 // An area's connection.
@@ -244,6 +245,44 @@ pub fn put_waiting(area: &mut [u64], conn: u64, t: u64)
     area[0] = conn;
     set_line(area, Line::waiting(t));
     set_prints(area, 0);
+}
+
+// How many of the items' words the line's items are: all where it counts more than an area has.
+fn item_words_used(area: &[u64], h: usize) -> usize
+    requires { ⌜ length (now area) ≡ 7 * h + 64 ⌝ }
+    ensures { λ r. ⌜ Enough (4 * heldOf (headLine (now (area .entry)))) (4 * h + 32) r ⌝ }
+{
+    let held = line(area).held();
+    if h + 8 < held {
+        return 4 * h + 32;
+    }
+    4 * held
+}
+
+// How many of the held prints' words they are, likewise.
+fn print_words_used(area: &[u64], h: usize) -> usize
+    requires { ⌜ length (now area) ≡ 7 * h + 64 ⌝ }
+    ensures { λ r. ⌜ Enough (3 * printCount (now (area .entry))) (3 * h) r ⌝ }
+{
+    let n = area[9] as usize;
+    if h < n {
+        return 3 * h;
+    }
+    3 * n
+}
+
+// Copies the area at `from` to the place `to`: of its words those that say something.
+pub fn copy(s: &mut [u64], h: usize, from: usize, to: usize)
+    requires { ⌜ TwoAreas h from to (now s) ⌝ }
+    ensures { λ r. ⌜ AreaCopied h from to (now (s .entry)) (now (s .exit)) ⌝ }
+{
+    let e = from + (7 * h + 64);
+    let items = item_words_used(&s[from..e], h);
+    let prints = print_words_used(&s[from..e], h);
+    words::copy(s, from, to, 10);
+    words::copy(s, from + 32, to + 32, items);
+    let p = 4 * h + 64;
+    words::copy(s, from + p, to + p, prints);
 }
 
 // Whether n items fit the area, and their tokens are known.

@@ -1,5 +1,6 @@
 // The print, on a sound store.
 use lines::Line;
+use rows::Place;
 use rules::Applied;
 use rules::EventKey;
 use rules::Kind;
@@ -12,6 +13,7 @@ ghost use Rattle.rules.specs.Lines.{lineOf, connAt};
 ghost use Rattle.rules.specs.Calls as Rules;
 ghost use Rattle.rules.specs.Answers.{ofStep};
 ghost use Rattle.store.specs.Store.{lineCount, marketOf, Sound};
+ghost use Rattle.store.specs.Moves.{KeyFound};
 ghost use Rattle.store.specs.ConnMoves.{NotFailed};
 ghost use Rattle.market.specs.Lent.{lent, Answers, Roomy};
 ghost use Rattle.market_prints.specs.Put.{putPrint};
@@ -44,12 +46,14 @@ fn put_print(
     message: u64,
     delivered: u64,
     applied: u64,
+    place: Place,
 ) -> Step
     requires { ⌜ (Roomy (now s) (now out)) × ((applied < delivered) × (delivered ≤ maxCount)) ⌝ }
+    requires { ⌜ KeyFound (now s) key place ⌝ }
     ensures { λ r. ⌜ Answers (putPrint conn key message delivered applied (marketOf (now (s .entry))))
         (lent (now (s .entry)) (now (out .entry))) (ofStep r) (lent (now (s .exit)) (now (out .exit))) ⌝ }
 {
-    store::tables::apply(s, key, delivered);
+    store::tables::apply(s, key, delivered, place);
     let record = Applied {
         conn,
         kind: Kind::Print,
@@ -72,8 +76,10 @@ fn counted(
     message: u64,
     delivered: u64,
     applied: u64,
+    place: Place,
 ) -> Step
     requires { ⌜ (Roomy (now s) (now out)) × ((i < lineCount (now s)) × ((NotFailed (now s) i) × (delivered ≤ maxCount))) ⌝ }
+    requires { ⌜ KeyFound (now s) key place ⌝ }
     ensures { λ r. ⌜ Answers (Rules.printCounted i conn key message delivered applied (marketOf (now (s .entry)))
         ((connAt i (marketOf (now (s .entry)))) .line))
         (lent (now (s .entry)) (now (out .entry))) (ofStep r) (lent (now (s .exit)) (now (out .exit))) ⌝ }
@@ -82,7 +88,7 @@ fn counted(
         return Step::Duplicate;
     }
     if store::conns::line_at(s, i).in_line() {
-        return put_print(s, out, conn, key, message, delivered, applied);
+        return put_print(s, out, conn, key, message, delivered, applied, place);
     }
     hold(s, i, key, message)
 }
@@ -101,16 +107,18 @@ fn deliver(
     ensures { λ r. ⌜ Answers (Rules.print conn key message t (marketOf (now (s .entry))))
         (lent (now (s .entry)) (now (out .entry))) (ofStep r) (lent (now (s .exit)) (now (out .exit))) ⌝ }
 {
-    if store::tables::no_row(s, key, conn) {
+    let found = store::tables::find(s, key, conn);
+    if store::tables::no_row(s, key, conn, found) {
         return Step::Refused(7);
     }
-    let delivered = store::tables::delivered(s, key, conn);
+    let delivered = store::tables::delivered(s, key, conn, found);
     if prints::MAX_COUNT <= delivered {
         return Step::Refused(8);
     }
-    let applied = store::tables::applied(s, key);
-    store::tables::deliver(s, key, conn, t);
-    counted(s, out, i, conn, key, message, delivered + 1, applied)
+    let old = found.key;
+    let applied = store::tables::applied(s, key, old);
+    let place = store::tables::deliver(s, key, conn, t, found);
+    counted(s, out, i, conn, key, message, delivered + 1, applied, place)
 }
 
 // A print by a connection.

@@ -106,10 +106,12 @@ fn release_print(s: &mut [u64], out: &mut [u64], n: usize, conn: u64, print: Hel
     ensures { λ r. ⌜ Does (release conn ((print .key, print .message) ∷ [])) (now (s .entry)) (now (out .entry)) n (now (s .exit)) (now (out .exit)) r ⌝ }
 {
     let key = print.key;
-    let delivered = store::tables::delivered(s, key, conn);
-    let applied = store::tables::applied(s, key);
+    let found = store::tables::find(s, key, conn);
+    let delivered = store::tables::delivered(s, key, conn, found);
+    let place = found.key;
+    let applied = store::tables::applied(s, key, place);
     if applied < delivered {
-        store::tables::apply(s, key, delivered);
+        store::tables::apply(s, key, delivered, place);
         let record = Applied {
             conn,
             kind: Kind::Print,

@@ -1,33 +1,22 @@
 -- Laws of the reading of items.
 use mathlib.Core.Path.{_≡_, refl, sym, ap, _∙_}
 use mathlib.Core.List.{List, [], _∷_, _++_, map}
-use mathlib.Core.Bool.{Bool, true, false}
-use Prim.Native.Nat.{ℕ, zero, suc, _+_, _*_, _-_, _≤_, _<_, zero-le, suc-le-suc}
+use Prim.Native.Nat.{ℕ, zero, suc, _+_, _*_, _-_, _≤_, _<_}
 use native.Mathlib.Numerals.{add-one}
 use native.Mathlib.Omega.{arith}
 use lib.ListN.{length, getD, set, drop, drop-of-length-le, length-map}
 use Rattle.rules.specs.declared.Item.{Item}
 use Rattle.rules.specs.declared.Item.the-variants as Item
-use Rattle.rules.specs.Lists.{any, Each}
+use Rattle.rules.specs.Lists.{Each}
 use Rattle.rules.specs.Quantities.{key}
 use Rattle.rules.specs.Lines.{events, messageOf}
 use Rattle.rules.proofs.ListLaws.{map-append}
 use Rattle.rules.proofs.SoundMoves.{events-le}
-use Rattle.words.specs.Words.{tab, back, over}
+use Rattle.words.specs.Words.{back, over}
 use Rattle.words.proofs.Tab.{length-tab, getD-tab, tab-ext, tab-snoc, drop-tab-cons}
+use Rattle.words.proofs.Lists.{each-of}
 use Rattle.words.proofs.Parts.{Loan, back-below, back-in, back-start}
 use Rattle.place.specs.Items.{itemOf, itemIn, itemsIn}
-
--- what a test finds among rows made from an index, from the i-th on
-module _ {A : Type 0} (t : A → Bool) (f : ℕ → A) (n i : ℕ) where
-  pub any-here : i < n → t (f i) ≡ true → true ≡ any t (drop i (tab n f))
-  any-here h e = rw (drop-tab-cons n i f h, e)
-
-  pub any-over : i < n → t (f i) ≡ false → any t (drop i (tab n f)) ≡ any t (drop (i + 1) (tab n f))
-  any-over h e = rw (drop-tab-cons n i f h, e)
-
-  pub any-end : n ≤ i → false ≡ any t (drop i (tab n f))
-  any-end h = rw (drop-of-length-le (tab n f) {i = i} (omega (arith, length-tab n f)))
 
 pub items-length : (n : ℕ) (w : List ℕ) → length (itemsIn n w) ≡ n
 unfolding itemsIn
@@ -54,13 +43,9 @@ pub items-at : (n : ℕ) (w : List ℕ) (i : ℕ) (d : Item) → i < n → getD 
 unfolding itemsIn
 items-at n w i d h = getD-tab n (itemIn w) i d h
 
-each-tab : {A : Type 0} (P : A → Type 0) (n : ℕ) (f : ℕ → A) → ((i : ℕ) → i < n → P (f i)) → Each P (tab n f)
-each-tab P zero f h = tt
-each-tab P (suc n) f h = (h 0 (suc-le-suc zero-le), each-tab P n (λ i. f (suc i)) (λ i l. h (suc i) (suc-le-suc l)))
-
 pub items-each : (P : Item → Type 0) (n : ℕ) (w : List ℕ) → ((i : ℕ) → i < n → P (itemIn w i)) → Each P (itemsIn n w)
 unfolding itemsIn
-items-each P n w h = each-tab P n (itemIn w) h
+items-each P n w h = each-of P n (itemIn w) h
 
 -- the items from the i-th on
 pub items-drop : (n i : ℕ) (w : List ℕ) → i < n → drop i (itemsIn n w) ≡ itemIn w i ∷ drop (i + 1) (itemsIn n w)

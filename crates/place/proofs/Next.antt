@@ -17,18 +17,22 @@ use Rattle.rules.specs.Lines.{events, eventKeys}
 use Rattle.rules.proofs.Tests.{by-cond}
 use Rattle.words.proofs.Cases.{below-or}
 use Rattle.place.specs.Items.{itemOf, itemIn, itemsIn, isEvent}
-use Rattle.place.proofs.Items.{any-here, any-over, any-end, items-length, items-drop, items-end, event-in}
+use Rattle.words.proofs.Lists.{any-here, any-over, any-end, index-here, index-over, index-end}
+use Rattle.place.proofs.Items.{items-length, items-drop, items-end, event-in}
 
 -- what holds of all items by a test, said of those from the i-th on
 module _ (t : Item → Bool) (w : List ℕ) (n i : ℕ) where
-  pub index-here : i < n → t (itemIn w i) ≡ true → i ≡ i + index t (drop i (itemsIn n w))
-  index-here h e = rw (items-drop n i w h, e) (omega arith)
+  pub event-here : i < n → t (itemIn w i) ≡ true → i ≡ i + index t (drop i (itemsIn n w))
+  unfolding itemsIn
+  event-here h e = index-here t (itemIn w) n i h e
 
-  pub index-over : i < n → t (itemIn w i) ≡ false → i + index t (drop i (itemsIn n w)) ≡ (i + 1) + index t (drop (i + 1) (itemsIn n w))
-  index-over h e = rw (items-drop n i w h, e) (omega arith)
+  pub event-over : i < n → t (itemIn w i) ≡ false → i + index t (drop i (itemsIn n w)) ≡ (i + 1) + index t (drop (i + 1) (itemsIn n w))
+  unfolding itemsIn
+  event-over h e = index-over t (itemIn w) n i h e
 
-  pub index-end : n ≤ i → i ≡ i + index t (drop i (itemsIn n w))
-  index-end h = rw (items-end n i w h) (omega arith)
+  pub event-end : n ≤ i → i ≡ i + index t (drop i (itemsIn n w))
+  unfolding itemsIn
+  event-end h = index-end t (itemIn w) n i h
 
   pub item-here : i < n → t (itemIn w i) ≡ true → true ≡ any t (drop i (itemsIn n w))
   unfolding itemsIn

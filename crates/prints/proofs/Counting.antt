@@ -1,142 +1,220 @@
 -- A print counted: the key touched, then the count of its connection raised.
-use mathlib.Core.Path.{_≡_, refl, sym, _∙_, ap}
-use mathlib.Core.List.{List}
-use mathlib.Core.Bool.{Bool, true, false, cond}
-use Prim.Native.Nat.{ℕ, suc, _+_, _-_, _*_, _≤_, _<_}
+use mathlib.Core.Path.{_≡_, refl, sym, _∙_, ap, subst, fun-ext}
+use mathlib.Core.List.{List, map}
+use mathlib.Core.Bool.{Bool, true, false, not, cond}
+use Prim.Native.Nat.{ℕ, suc, _+_, _*_, _≤_, _<_}
+use native.Mathlib.Nat.{zero-add}
 use native.Mathlib.Omega.{arith}
-use lib.ListN.{length}
-use Rattle.rules.specs.Lists.{any, amend, insert, maybe}
-use Rattle.rules.specs.Quantities.{Key, key, same}
-use Rattle.rules.specs.Prints.{before, ofPair, deliveredIn, touch, deliver, counted}
+use lib.ListN.{length, set, length-set}
+use Rattle.rules.specs.Lists.{amend, insert, Rising}
+use Rattle.rules.specs.Quantities.{Key}
+use Rattle.rules.specs.Prints.{KeyRow, CountRow, keyBefore, countBefore, ofKey, ofPair, deliveredIn, touch, deliver, counted}
 use Rattle.rules.specs.Sound.{TablesSound}
-use Rattle.rules.proofs.Order.{samePair, pairBefore}
-use Rattle.words.specs.Words.{tab}
-use Rattle.words.proofs.Tab.{tab-ext}
-use Rattle.rows.specs.Rows.{Row, row, rowAt, rowIn, below, alike, Here, Between, Room, Upserted, changed, added}
+use Rattle.rules.proofs.Order.{same-itself}
+use Rattle.words.proofs.Mapped.{amend-map, insert-map}
+use Rattle.rows.specs.declared.Place.{Place}
+use Rattle.rows.specs.declared.Place.the-variants.{At, Gap}
+use Rattle.rows.specs.declared.Runs.{Runs}
+use Rattle.rows.specs.declared.Added.{Added}
+use Rattle.rows.specs.Rows.{Row, row, rowAt, rowIn, alike, Here, Between, Put}
+use Rattle.rows.specs.Tables.{Before, size, tableOf, Table, Missing, Stands, Grown}
+use Rattle.rows.proofs.Moves.{put-last}
+use Rattle.rows.proofs.TableLaws.{table-same, hit-amend}
 use Rattle.prints.specs.declared.Used.{Used}
-use Rattle.prints.specs.Area.{keyRow, countRow, keyAt, countAt, printsOf, Fits, Free}
-use Rattle.prints.proofs.Sorted.{Sorted, sorted-same, hit-first, hit-upsert, gap-any, gap-first, gap-upsert}
-use Rattle.prints.proofs.Tables.{place, pair, prints-eq, keys-sorted, pairs-sorted, key-lacks}
+use Rattle.prints.specs.declared.Found.{Found}
+use Rattle.prints.specs.Area.{keyRow, countRow, printsOf, Fits, Free, KeyStands, FoundIn}
+use Rattle.prints.specs.Steps.{isGap, KeyTouched, PairCounted}
+use Rattle.prints.proofs.Tables.{prints-eq, keys-table, counts-table, key-stands, pair-stands, delivered-at, delivered-none, has-key, has-pair}
 
--- ---- a row put into a table of words is the row put into the list that it says
-module _ {A I : Type 0} (pos : A → I) (B S : I → I → Bool) (mk : Row → A) (three : Bool) (b n x y z u : ℕ) (p : I)
-    (b-is : (q : Row) → below three q x y z ≡ B (pos (mk q)) p) (s-is : (q : Row) → alike three q x y z ≡ S (pos (mk q)) p)
-    (w v : List ℕ) (r : ℕ) (o : Sorted pos B S (λ k. mk (rowIn b w k)) n) (g : A → A) (new : A) (at : pos new ≡ p)
-    (hit : (i : ℕ) → Here three (rowIn b w) n x y z i → mk (row (rowIn b w i .a) (rowIn b w i .b) (rowIn b w i .c) u) ≡ g (mk (rowIn b w i)))
-    (gap : (i : ℕ) → Between three (rowIn b w) n x y z i → mk (row x y z u) ≡ new) where
-  pub upsert-says : Upserted three b n x y z u w v r
-      → tab r (λ k. mk (rowIn b v k)) ≡ cond (any (λ q. S (pos q) p) (tab n (λ k. mk (rowIn b w k)))) (amend (λ q. S (pos q) p) g (tab n (λ k. mk (rowIn b w k)))) (insert (λ q t. B (pos q) (pos t)) new (tab n (λ k. mk (rowIn b w k))))
-  upsert-says (changed i h q e) =
-      ap (λ (k : ℕ). tab k (λ j. mk (rowIn b v j))) e
-      ∙ hit-upsert pos B S (λ k. mk (rowIn b w k)) n o p i (h .within) (sym (s-is (rowIn b w i)) ∙ h .hit) new g (λ k. mk (rowIn b v k))
-      (ap mk (q .here) ∙ hit i h)
-      (λ k d. ap mk (q .others (b + k) (λ m. d (omega arith))))
-  upsert-says (added i h q e) =
-      ap (λ (k : ℕ). tab k (λ j. mk (rowIn b v j))) e
-      ∙ gap-upsert pos B S (λ k. mk (rowIn b w k)) n o p i (h .within)
-      (λ l. sym (b-is (rowIn b w (i - 1))) ∙ h .left l)
-      (λ l. sym (b-is (rowIn b w i)) ∙ h .right l)
-      (λ l. sym (s-is (rowIn b w i)) ∙ h .miss l)
-      new
-      g
-      (λ k. mk (rowIn b v k))
-      at
-      (λ k l. ap mk (q .front (b + k) (omega arith)))
-      (ap mk (q .here) ∙ gap i h)
-      (λ k l m. let d : b + suc k ≡ suc (b + k) = omega arith in ap (λ (t : ℕ). mk (rowAt v t)) d ∙ ap mk (q .moved (b + k) (omega arith) (omega arith)))
+-- ---- the key is touched
+module _ (c : ℕ) (u : Runs) (k : Key) (t : ℕ) (w : List ℕ) (s : Table false 0 u w) (b : size u ≤ c) (n : 4 * c ≤ length w) where
+  touched : KeyRow → KeyRow
+  touched r = record { key = r .key; applied = r .applied; touched = t }
 
-module _ (three : Bool) (b n x y z u : ℕ) (w v : List ℕ) (r : ℕ) where
-  -- the rows outside the table are as they were
-  pub upsert-before : Upserted three b n x y z u w v r → (k : ℕ) → k < b → rowAt v k ≡ rowAt w k
-  upsert-before (changed i h q e) k l = q .others k (λ m. omega arith)
-  upsert-before (added i h q e) k l = q .front k (omega arith)
+  -- by whether it was there
+  touch-is : (p : Place) → Stands false 0 u (k .0) (k .1) 0 w p
+      → touch k t (map keyRow (tableOf false 0 u w))
+      ≡ cond (not (isGap p)) (amend (ofKey k) touched (map keyRow (tableOf false 0 u w)))
+      (insert keyBefore (record { key = k; applied = 0; touched = t }) (map keyRow (tableOf false 0 u w)))
+  unfolding touched
+  touch-is p h =
+      ap
+      (λ (b : Bool). cond b (amend (ofKey k) touched (map keyRow (tableOf false 0 u w)))
+      (insert keyBefore (record { key = k; applied = 0; touched = t }) (map keyRow (tableOf false 0 u w))))
+      (key-stands u w s k p h)
 
-  pub upsert-after : Upserted three b n x y z u w v r → (k : ℕ) → b + r ≤ k → rowAt v k ≡ rowAt w k
-  upsert-after (changed i h q e) k l = q .others k (λ m. omega (arith, h .within))
-  upsert-after (added i h q e) k l = q .past k (omega arith)
-
-  pub upsert-rows : Upserted three b n x y z u w v r → (m : ℕ) → n ≤ m → ((i : ℕ) → Between three (rowIn b w) n x y z i → n < m) → r ≤ m
-  upsert-rows (changed i h q e) m l f = omega arith
-  upsert-rows (added i h q e) m l f = omega (arith, f i h)
-
-  pub upsert-inside : Upserted three b n x y z u w v r → Room three b n x y z w → 4 * (b + r) ≤ length w
-  upsert-inside (changed i h q e) m = omega (arith, m .inside)
-  upsert-inside (added i h q e) m = omega (arith, m .more i h)
-
--- ---- first the key, then the pair
-module _ (c : ℕ) (w : List ℕ) (u : Used) (k : Key) (x t : ℕ) (s : TablesSound (printsOf c w u)) (f : Fits c w u) (free : Free c w u k x) where
-  pub key-room : Room false 0 (u .keys) (k .0) (k .1) 0 w
-  key-room =
+  pub touch-there : (i : ℕ) → Here false (rowIn 0 w) (size u) (k .0) (k .1) 0 i → KeyTouched c u k t w (set w (4 * i + 3) t) (record { runs = u; at = i })
+  unfolding touched
+  touch-there i h =
       record {
-        inside = omega (arith, f .keys, f .counts);
-        more = λ i g. let h : u .keys < c = free .forKey (key-lacks c w u s k 0 i g) in omega (arith, f .counts);
+        table =
+            ap (map keyRow) (hit-amend false 0 u w s (k .0) (k .1) 0 i h g (λ r. refl) v p)
+            ∙ amend-map keyRow (ofKey k) touched g (λ r. refl) (tableOf false 0 u w)
+            ∙ sym (touch-is (At i) h);
+        lies = record { inside = omega (arith, length-set w (4 * i + 3) t, s .lies .inside); short = s .lies .short };
+        fits = b;
+        here = record { within = h .within; hit = ap (λ (r : Row). alike false r (k .0) (k .1) 0) (p .here) ∙ h .hit };
+        others = λ j l. p .others j (λ e. omega (arith, h .within));
+      }
+    where
+      v : List ℕ
+      v = set w (4 * i + 3) t
+
+      g : Row → Row
+      g r = row (r .a) (r .b) (r .c) t
+
+      p : Put w v (0 + i) (g (rowIn 0 w i))
+      p = subst (λ (j : ℕ). Put w v j (g (rowAt w j))) (sym (zero-add i)) (put-last w i t (omega (arith, h .within)))
+
+  pub touch-new : (v : List ℕ) (r : Added) (i : ℕ) → Missing false 0 u (k .0) (k .1) 0 w i → size u < c → length v ≡ length w
+      → Grown false 0 u (row (k .0) (k .1) 0 t) w v r → KeyTouched c u k t w v r
+  unfolding touched
+  touch-new v r i m l e g =
+      record {
+        table =
+            ap (map keyRow) (g .table)
+            ∙ insert-map keyRow keyBefore (row (k .0) (k .1) 0 t) (tableOf false 0 u w)
+            ∙ sym (touch-is (Gap i) m);
+        lies = record { inside = omega (arith, g .more); short = g .short };
+        fits = omega (arith, g .more);
+        here = record { within = g .within; hit = ap (λ (r : Row). alike false r (k .0) (k .1) 0) (g .here) ∙ same-itself k };
+        others = λ j q. g .above j (omega arith);
       }
 
-  module _ (v : List ℕ) (r : ℕ) (p : Upserted false 0 (u .keys) (k .0) (k .1) 0 t w v r) where
-    keys-fit : r ≤ c
-    keys-fit = upsert-rows false 0 (u .keys) (k .0) (k .1) 0 t w v r p c (f .keys) (λ i g. free .forKey (key-lacks c w u s k 0 i g))
+-- ---- the copy is counted
+module _ (c : ℕ) (u : Runs) (k : Key) (x n : ℕ) (w : List ℕ) (s : Table true c u w)
+    (d : n ≡ suc (deliveredIn k x (map countRow (tableOf true c u w)))) where
+  raised : CountRow → CountRow
+  raised r = record { key = r .key; conn = r .conn; delivered = suc (r .delivered) }
 
-    counts-same : (j : ℕ) → countAt c v j ≡ countAt c w j
-    counts-same j = ap countRow (upsert-after false 0 (u .keys) (k .0) (k .1) 0 t w v r p (c + j) (omega (arith, keys-fit)))
+  deliver-is : (p : Place) → Stands true c u (k .0) (k .1) x w p
+      → deliver k x (map countRow (tableOf true c u w))
+      ≡ cond (not (isGap p)) (amend (ofPair k x) raised (map countRow (tableOf true c u w)))
+      (insert countBefore (record { key = k; conn = x; delivered = 1 }) (map countRow (tableOf true c u w)))
+  unfolding raised
+  deliver-is p h =
+      ap
+      (λ (b : Bool). cond b (amend (ofPair k x) raised (map countRow (tableOf true c u w)))
+      (insert countBefore (record { key = k; conn = x; delivered = 1 }) (map countRow (tableOf true c u w))))
+      (pair-stands c u w s k x p h)
 
-    counts-tab : tab (u .counts) (countAt c v) ≡ tab (u .counts) (countAt c w)
-    counts-tab = tab-ext (u .counts) (countAt c v) (countAt c w) (λ j l. counts-same j)
+  pub count-there : (i : ℕ) → Here true (rowIn c w) (size u) (k .0) (k .1) x i → PairCounted c u k x w (set w (4 * (c + i) + 3) n) u
+  unfolding raised
+  count-there i h =
+      record {
+        table =
+            ap (map countRow) (hit-amend true c u w s (k .0) (k .1) x i h g (λ r. refl) v p)
+            ∙ amend-map countRow (ofPair k x) raised g (λ r. refl) (tableOf true c u w)
+            ∙ sym (deliver-is (At i) h);
+        lies = record { inside = omega (arith, length-set w (4 * (c + i) + 3) n, s .lies .inside); short = s .lies .short };
+        others = λ j l. p .others j (λ e. omega arith);
+      }
+    where
+      v : List ℕ
+      v = set w (4 * (c + i) + 3) n
 
-    still-sorted : Sorted pair pairBefore samePair (countAt c v) (u .counts)
-    still-sorted = sorted-same pair pairBefore samePair (countAt c w) (u .counts) (pairs-sorted c w u s) (countAt c v) counts-same
+      g : Row → Row
+      g r = row (r .a) (r .b) (r .c) (suc (r .d))
 
-    lacks : (i : ℕ) → Between true (rowIn c v) (u .counts) (k .0) (k .1) x i → any (ofPair k x) (printsOf c w u .countRows) ≡ false
+      one-more : n ≡ suc (rowIn c w i .d)
+      one-more = d ∙ ap suc (sym (delivered-at c u w s k x i h))
+
+      p : Put w v (c + i) (g (rowIn c w i))
+      p =
+          subst (λ (m : ℕ). Put w v (c + i) (row (rowIn c w i .a) (rowIn c w i .b) (rowIn c w i .c) m)) one-more
+          (put-last w (c + i) n (omega (arith, h .within, s .lies .inside)))
+
+  pub count-new : (v : List ℕ) (r : Added) (i : ℕ) → Missing true c u (k .0) (k .1) x w i → 4 * (c + size u) + 3 < length w → length v ≡ length w
+      → Grown true c u (row (k .0) (k .1) x n) w v r → PairCounted c u k x w v (r .runs)
+  unfolding raised
+  count-new v r i m l e g =
+      let one : n ≡ 1 = d ∙ ap suc (sym (delivered-none c u w s k x i m)) in
+      record {
+        table =
+            ap (map countRow) (g .table)
+            ∙ insert-map countRow countBefore (row (k .0) (k .1) x n) (tableOf true c u w)
+            ∙ ap (λ (j : ℕ). insert countBefore (record { key = k; conn = x; delivered = j }) (map countRow (tableOf true c u w))) one
+            ∙ sym (deliver-is (Gap i) m);
+        lies = record { inside = omega (arith, g .more); short = g .short };
+        others = g .below;
+      }
+
+-- ---- a table whose rows are as they were
+module _ (three : Bool) (b : ℕ) (u : Runs) (w v : List ℕ) (same : (k : ℕ) → b ≤ k → rowAt v k ≡ rowAt w k) where
+  rows-same : (a : ℕ) → b ≤ a → rowIn a w ≡ rowIn a v
+  rows-same a h = fun-ext (λ i. sym (same (a + i) (omega arith)))
+
+  list-same : tableOf three b u v ≡ tableOf three b u w
+  list-same = table-same three b u w v (λ k l m. same k l)
+
+  still-table : length v ≡ length w → Table three b u w → Table three b u v
+  still-table e t =
+      record {
+        lies = record { inside = omega (arith, t .lies .inside); short = t .lies .short };
+        rises = subst (Rising (Before three)) (sym list-same) (t .rises);
+      }
+
+  still-stands : (x y z : ℕ) (p : Place) → Stands three b u x y z w p → Stands three b u x y z v p
+  still-stands x y z (At i) h = subst (λ (f : ℕ → Row). Here three f (size u) x y z i) (rows-same b (omega arith)) h
+  still-stands x y z (Gap i) m =
+      record {
+        gap = m .gap;
+        old = subst (λ (f : ℕ → Row). Between three f (u .old) x y z (m .gap)) (rows-same b (omega arith)) (m .old);
+        new = subst (λ (f : ℕ → Row). Between three f (u .new) x y z i) (rows-same (b + u .old) (omega arith)) (m .new);
+      }
+
+-- ---- first the key, then the pair
+module _ (c : ℕ) (w : List ℕ) (u : Used) (k : Key) (x : ℕ) (n : Found) (f : Fits c w u) (s : TablesSound (printsOf c w u)) (h : FoundIn c w u k x n)
+    (free : Free c w u k x) where
+  key-free : isGap (n .key) ≡ true → size (u .keys) < c
+  key-free e = free .forKey (has-key c w u f s k (n .key) (h .key) ∙ ap not e)
+
+  pair-free : isGap (n .pair) ≡ true → 4 * (c + size (u .counts)) + 3 < length w
+  pair-free e = free .forPair (has-pair c w u f s k x (n .pair) (h .pair) ∙ ap not e)
+
+  pub touch-ready : (Table false 0 (u .keys) w × ((size (u .keys) ≤ c) × (4 * c ≤ length w)))
+      × (KeyStands w u k (n .key) × (isGap (n .key) ≡ true → size (u .keys) < c))
+  touch-ready = ((keys-table c w u f s, (f .apart, omega (arith, f .counts .inside))), (h .key, key-free))
+
+  module _ {t : ℕ} (v : List ℕ) (r : Added) (a : KeyTouched c (u .keys) k t w v r) (e : length v ≡ length w) where
+    counts-same : map countRow (tableOf true c (u .counts) v) ≡ map countRow (tableOf true c (u .counts) w)
+    counts-same = ap (map countRow) (list-same true c (u .counts) w v (a .others))
+
+    pub count-ready : {d m : ℕ} → d ≡ deliveredIn k x (printsOf c w u .countRows) → m ≡ suc d
+        → Table true c (u .counts) v
+        × (Stands true c (u .counts) (k .0) (k .1) x v (n .pair) × ((isGap (n .pair) ≡ true → 4 * (c + size (u .counts)) + 3 < length v)
+        × (m ≡ suc (deliveredIn k x (map countRow (tableOf true c (u .counts) v))))))
     unfolding printsOf
-    lacks i g =
-        sym (ap (any (ofPair k x)) counts-tab)
-        ∙ gap-any pair pairBefore samePair (countAt c v) (u .counts) still-sorted (k, x) i (g .within) (g .left) (g .right) (g .miss)
+    count-ready q z = (
+      still-table true c (u .counts) w v (a .others) e (counts-table c w u f s),
+      (
+        still-stands true c (u .counts) w v (a .others) (k .0) (k .1) x (n .pair) (h .pair),
+        (
+          λ g. let y : 4 * (c + size (u .counts)) + 3 < length w = pair-free g in omega arith,
+          z ∙ ap suc (q ∙ sym (ap (deliveredIn k x) counts-same)),
+        ),
+      ),
+    )
 
-    pub pair-room : length v ≡ length w → Room true c (u .counts) (k .0) (k .1) x v
-    pair-room e =
+    pub deliver-done : {z : ℕ} → t ≡ z → (v′ : List ℕ) (m : Runs) → PairCounted c (u .counts) k x v v′ m → length v′ ≡ length v
+        → (printsOf c v′ (record { keys = r .runs; counts = m }) ≡ counted k x z (printsOf c w u))
+        × (Fits c v′ (record { keys = r .runs; counts = m }) × KeyStands v′ (record { keys = r .runs; counts = m }) k (At (r .at)))
+    unfolding printsOf
+    deliver-done q v′ m p e′ = (
+      prints-eq
+          (ap (map keyRow) (table-same false 0 (r .runs) v v′ (λ j y z. p .others j (omega (arith, a .fits))))
+          ∙ a .table
+          ∙ ap (λ (j : ℕ). touch k j (map keyRow (tableOf false 0 (u .keys) w))) q)
+          (p .table ∙ ap (deliver k x) counts-same),
+      (
         record {
-          inside = omega (arith, f .counts);
-          more = λ i g. let h : 4 * (c + u .counts) + 3 < length w = free .forPair (lacks i g) in omega arith;
-        }
-
-    key-touched : tab r (keyAt v) ≡ touch k t (printsOf c w u .keyRows)
-    unfolding printsOf
-    key-touched =
-        upsert-says place before same keyRow false 0 (u .keys) (k .0) (k .1) 0 t k (λ q. refl) (λ q. refl) w v r (keys-sorted c w u s)
-        (λ q. record { key = q .key; applied = q .applied; touched = t })
-        (record { key = k; applied = 0; touched = t })
-        refl
-        (λ i h. refl)
-        (λ i h. refl)
-        p
-
-    module _ (d : ℕ) (e : d ≡ deliveredIn k x (printsOf c w u .countRows)) (v′ : List ℕ) (r′ : ℕ) (p′ : Upserted true c (u .counts) (k .0) (k .1) x (d + 1) v v′ r′) where
-      old : d ≡ deliveredIn k x (tab (u .counts) (countAt c v))
-      unfolding printsOf
-      old = e ∙ sym (ap (deliveredIn k x) counts-tab)
-
-      delivered-at : (i : ℕ) → Here true (rowIn c v) (u .counts) (k .0) (k .1) x i → d ≡ rowIn c v i .d
-      delivered-at i h = old ∙ ap (maybe 0 (λ q. q .delivered)) (hit-first pair pairBefore samePair (countAt c v) (u .counts) still-sorted (k, x) i (h .within) (h .hit))
-
-      delivered-none : (i : ℕ) → Between true (rowIn c v) (u .counts) (k .0) (k .1) x i → d ≡ 0
-      delivered-none i g =
-          old ∙ ap (maybe 0 (λ q. q .delivered)) (gap-first pair pairBefore samePair (countAt c v) (u .counts) still-sorted (k, x) i (g .within) (g .left) (g .right) (g .miss))
-
-      pair-counted : tab r′ (countAt c v′) ≡ deliver k x (tab (u .counts) (countAt c v))
-      pair-counted =
-          upsert-says pair pairBefore samePair countRow true c (u .counts) (k .0) (k .1) x (d + 1) (k, x) (λ q. refl) (λ q. refl) v v′ r′ still-sorted
-          (λ q. record { key = q .key; conn = q .conn; delivered = suc (q .delivered) })
-          (record { key = k; conn = x; delivered = 1 })
-          refl
-          (λ i h. let z : d + 1 ≡ suc (rowIn c v i .d) = omega (arith, delivered-at i h) in rw z)
-          (λ i g. let z : d + 1 ≡ 1 = omega (arith, delivered-none i g) in rw z)
-          p′
-
-      pub deliver-done : length v′ ≡ length v → length v ≡ length w
-          → (printsOf c v′ (record { keys = r; counts = r′ }) ≡ counted k x t (printsOf c w u)) × Fits c v′ (record { keys = r; counts = r′ })
-      unfolding printsOf
-      deliver-done a b = (
-        prints-eq
-            (tab-ext r (keyAt v′) (keyAt v) (λ j l. ap keyRow (upsert-before true c (u .counts) (k .0) (k .1) x (d + 1) v v′ r′ p′ (0 + j) (omega (arith, keys-fit)))) ∙ key-touched)
-            (pair-counted ∙ ap (deliver k x) counts-tab),
-        record { keys = keys-fit; counts = omega (arith, upsert-inside true c (u .counts) (k .0) (k .1) x (d + 1) v v′ r′ p′ (pair-room b)) },
-      )
+          keys = record { inside = omega (arith, a .lies .inside); short = a .lies .short };
+          counts = p .lies;
+          apart = a .fits;
+        },
+        record {
+          within = a .here .within;
+          hit = ap (λ (r : Row). alike false r (k .0) (k .1) 0) (p .others (0 + r .at) (omega (arith, a .here .within, a .fits))) ∙ a .here .hit;
+        },
+      ),
+    )

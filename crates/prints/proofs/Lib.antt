@@ -1,7 +1,6 @@
-pub mod Order
-pub mod Lists
-pub mod Sorted
 pub mod Tables
-pub mod Merge
 pub mod Counting
 pub mod Staying
+pub mod Joining
+pub mod Keyed
+pub mod Soundness

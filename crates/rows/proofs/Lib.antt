@@ -1,3 +1,14 @@
 pub mod Tests
 pub mod Search
 pub mod Moves
+pub mod Copies
+pub mod Order
+pub mod Sorted
+pub mod Merged
+pub mod Placed
+pub mod TableLaws
+pub mod Finding
+pub mod FromBehind
+pub mod Settling
+pub mod Ordered
+pub mod Adding

@@ -2,7 +2,7 @@
 use mathlib.Core.Path.{_≡_, refl, _∙_, ap}
 use mathlib.Core.Logic.{⊎-elim}
 use mathlib.Core.List.{List, [], _∷_}
-use Prim.Native.Nat.{ℕ, suc, _+_, _-_, _*_, _≤_, _<_}
+use Prim.Native.Nat.{ℕ, _+_, _-_, _*_, _≤_, _<_}
 use native.Mathlib.Nat.{add-zero}
 use native.Mathlib.Omega.{arith}
 use lib.ListN.{length, getD, set}
@@ -10,7 +10,7 @@ use lib.Seq.{getD-set-same, getD-set-other}
 use Rattle.words.specs.Words.{back}
 use Rattle.words.proofs.Cases.{below-or, apart}
 use Rattle.words.proofs.Parts.{Loan, back-below, back-in, back-above}
-use Rattle.rows.specs.Rows.{Row, row, rowAt, Put, Inserted}
+use Rattle.rows.specs.Rows.{Row, row, rowAt, Put, Shifted}
 
 -- a row by its words
 pub row-is : (w : List ℕ) (i : ℕ) (r : Row) → getD w (4 * i + 0) 0 ≡ r .a → getD w (4 * i + 1) 0 ≡ r .b → getD w (4 * i + 2) 0 ≡ r .c → getD w (4 * i + 3) 0 ≡ r .d → rowAt w i ≡ r
@@ -25,6 +25,10 @@ row-same v w i j h =
     (h 1 (omega arith))
     (h 2 (omega arith))
     (h 3 (omega arith))
+
+-- a row by its number
+pub row-at : (w : List ℕ) (i j : ℕ) {r : Row} → i ≡ j → rowAt w j ≡ r → rowAt w i ≡ r
+row-at w i j e p = ap (rowAt w) e ∙ p
 
 -- a row written whole
 pub put-whole : (w ys : List ℕ) (i x y z u : ℕ) → 4 * i + 3 < length w → ys ≡ x ∷ y ∷ z ∷ u ∷ [] → Put w (back (4 * i) (4 * i + 4) ys w) i (row x y z u)
@@ -82,36 +86,30 @@ module _ (w : List ℕ) (i v : ℕ) (h : 4 * i + 3 < length w) where
         others = set-others w i 3 v (omega arith);
       }
 
--- the rows from j to n have moved up by one
-pub record Raised (w v : List ℕ) (j n : ℕ) : Type 0 where
+-- the rows from j to n have moved up by d
+pub record Raised (w v : List ℕ) (j n d : ℕ) : Type 0 where
   pub size : length v ≡ length w
   pub high : j ≤ n
-  pub low : (k : ℕ) → k ≤ j → rowAt v k ≡ rowAt w k
-  pub moved : (k : ℕ) → j ≤ k → k < n → rowAt v (suc k) ≡ rowAt w k
-  pub past : (k : ℕ) → n < k → rowAt v k ≡ rowAt w k
+  pub low : (k : ℕ) → k < j + d → rowAt v k ≡ rowAt w k
+  pub moved : (k : ℕ) → j ≤ k → k < n → rowAt v (k + d) ≡ rowAt w k
+  pub past : (k : ℕ) → n + d ≤ k → rowAt v k ≡ rowAt w k
 
-pub raised-start : (w : List ℕ) (n : ℕ) → Raised w w n n
-raised-start w n = record { size = refl; high = omega arith; low = λ k h. refl; moved = λ k h l. absurd (omega arith); past = λ k h. refl }
+pub raised-start : (w : List ℕ) (n d : ℕ) → Raised w w n n d
+raised-start w n d = record { size = refl; high = omega arith; low = λ k h. refl; moved = λ k h l. absurd (omega arith); past = λ k h. refl }
 
-module _ (w v v′ : List ℕ) (j n : ℕ) (r : Raised w v j n) where
-  pub raised-more : 0 < j → length v′ ≡ length v → Put v v′ j (rowAt v (j - 1)) → Raised w v′ (j - 1) n
-  raised-more l e p =
+module _ (w v : List ℕ) (j n d : ℕ) (r : Raised w v j n d) where
+  pub raised-more : (v′ : List ℕ) → 0 < j → length v′ ≡ length v → Put v v′ (j - 1 + d) (rowAt v (j - 1)) → Raised w v′ (j - 1) n d
+  raised-more v′ l e p =
       record {
         size = e ∙ r .size;
         high = omega (arith, r .high);
         low = λ k h. p .others k (λ q. omega arith) ∙ r .low k (omega arith);
-        moved = λ k h m. ⊎-elim (λ b. first k (omega arith)) (λ b. p .others (suc k) (λ q. omega arith) ∙ r .moved k b m) (below-or k j);
+        moved = λ k h m. ⊎-elim (λ b. first k (omega arith)) (λ b. p .others (k + d) (λ q. omega arith) ∙ r .moved k b m) (below-or k j);
         past = λ k h. p .others k (λ q. omega (arith, r .high)) ∙ r .past k h;
       }
     where
-      first : (k : ℕ) → k ≡ j - 1 → rowAt v′ (suc k) ≡ rowAt w k
-      first k q = let z : suc k ≡ j = omega arith in rw (z, q) (p .here ∙ r .low (j - 1) (omega arith))
+      first : (k : ℕ) → k ≡ j - 1 → rowAt v′ (k + d) ≡ rowAt w k
+      first k q = rw q (p .here ∙ r .low (j - 1) (omega arith))
 
-  pub raised-stop : (i : ℕ) (x : Row) → i ≤ j → j ≤ i → Put v v′ i x → Inserted w v′ i n x
-  raised-stop i x l g p =
-      record {
-        front = λ k h. p .others k (λ q. omega arith) ∙ r .low k (omega arith);
-        here = p .here;
-        moved = λ k h m. p .others (suc k) (λ q. omega arith) ∙ r .moved k (omega arith) m;
-        past = λ k h. p .others k (λ q. omega (arith, r .high)) ∙ r .past k h;
-      }
+  pub raised-stop : (i : ℕ) → i ≤ j → j ≤ i → Shifted w v i n d
+  raised-stop i l g = record { front = λ k h. r .low k (omega arith); moved = λ k h m. r .moved k (omega arith) m; past = r .past }

@@ -2,8 +2,8 @@
 use mathlib.Core.Path.{_≡_}
 use mathlib.Core.Bool.{Bool, true, false, _&&_, _||_}
 use mathlib.Core.List.{List}
-use Prim.Native.Nat.{ℕ, suc, _+_, _-_, _*_, _≤_, _<_}
-use lib.ListN.{length, getD}
+use Prim.Native.Nat.{ℕ, _+_, _-_, _*_, _≤_, _<_}
+use lib.ListN.{getD}
 use lib.Dec.{ltb, eqb}
 use Rattle.rows.specs.declared.Place.{Place}
 use Rattle.rows.specs.declared.Place.the-variants.{At, Gap}
@@ -49,7 +49,18 @@ pub record Here (three : Bool) (f : ℕ → Row) (n x y z i : ℕ) : Type 0 wher
   pub within : i < n
   pub hit : alike three (f i) x y z ≡ true
 
--- of n rows f the one before i is below the words, and the i-th is neither below them nor theirs
+-- of n rows f the one before i has a first word below x, and there are m more
+pub record LooksFrom (f : ℕ → Row) (n x i m : ℕ) : Type 0 where
+  pub within : i + m ≤ n
+  pub left : 0 < i → f (i - 1) .a < x
+
+-- of n rows f the one before i is below the words, and the i-th is not
+pub record Lower (three : Bool) (f : ℕ → Row) (n x y z i : ℕ) : Type 0 where
+  pub within : i ≤ n
+  pub left : 0 < i → below three (f (i - 1)) x y z ≡ true
+  pub right : i < n → below three (f i) x y z ≡ false
+
+-- nor is it theirs
 pub record Between (three : Bool) (f : ℕ → Row) (n x y z i : ℕ) : Type 0 where
   pub within : i ≤ n
   pub left : 0 < i → below three (f (i - 1)) x y z ≡ true
@@ -65,20 +76,8 @@ pub record Put (w v : List ℕ) (i : ℕ) (x : Row) : Type 0 where
   pub here : rowAt v i ≡ x
   pub others : (k : ℕ) → (k ≡ i → ⊥) → rowAt v k ≡ rowAt w k
 
--- v is w with x at i, and the rows from i to n one further up
-pub record Inserted (w v : List ℕ) (i n : ℕ) (x : Row) : Type 0 where
-  pub front : (k : ℕ) → k < i → rowAt v k ≡ rowAt w k
-  pub here : rowAt v i ≡ x
-  pub moved : (k : ℕ) → i ≤ k → k < n → rowAt v (suc k) ≡ rowAt w k
-  pub past : (k : ℕ) → n < k → rowAt v k ≡ rowAt w k
-
--- the table lies in the words w, with room for a row more where none is that of x, y, z
-pub record Room (three : Bool) (b n x y z : ℕ) (w : List ℕ) : Type 0 where
-  pub inside : 4 * (b + n) ≤ length w
-  pub more : (i : ℕ) → Between three (rowIn b w) n x y z i → 4 * (b + n) + 3 < length w
-
--- the row of x, y, z has the last word u, or is put in: v has r rows where w had n
-pub data Upserted (three : Bool) (b n x y z u : ℕ) (w v : List ℕ) (r : ℕ) : Type 0 where
-  changed : (i : ℕ) → Here three (rowIn b w) n x y z i → Put w v (b + i) (row (rowIn b w i .a) (rowIn b w i .b) (rowIn b w i .c) u) → r ≡ n
-      → Upserted three b n x y z u w v r
-  added : (i : ℕ) → Between three (rowIn b w) n x y z i → Inserted w v (b + i) (b + n) (row x y z u) → r ≡ n + 1 → Upserted three b n x y z u w v r
+-- v is w with the rows from i to n also d further up
+pub record Shifted (w v : List ℕ) (i n d : ℕ) : Type 0 where
+  pub front : (k : ℕ) → k < i + d → rowAt v k ≡ rowAt w k
+  pub moved : (k : ℕ) → i ≤ k → k < n → rowAt v (k + d) ≡ rowAt w k
+  pub past : (k : ℕ) → n + d ≤ k → rowAt v k ≡ rowAt w k

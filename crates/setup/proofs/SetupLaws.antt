@@ -15,8 +15,9 @@ use Rattle.rules.specs.Refusals.{setup}
 use Rattle.rules.specs.Answers.{number, word}
 use Rattle.rules.specs.Sound as Rules
 use Rattle.rules.proofs.Tests.{lt-ltb, le-ltb}
-use Rattle.store.specs.Store.{layout, layoutOf, limitsOf, lineCount, marketOf, Sound}
-use Rattle.store.proofs.MarketLaws.{market-limits, lines-count}
+use Rattle.rows.specs.Tables.{size}
+use Rattle.store.specs.Store.{layout, layoutOf, limitsOf, lineCount, usedOf, marketOf, Sound}
+use Rattle.store.proofs.MarketLaws.{market-limits, lines-count, key-count, pair-count}
 use Rattle.sound.proofs.RangeLaws.{bounds}
 use Rattle.promise.specs.Meets.{MeetsSetup}
 
@@ -37,6 +38,8 @@ module _ (l : Limits) (start : ℕ) (w : List ℕ) where
       let q : limitsOf v ≡ l = sym (market-limits v) ∙ ap (λ (x : Market). x .limits) m in
       let none : lineCount v ≡ 0 = sym (lines-count v) ∙ ap (λ (x : Market). length (x .lines)) m in
       let limit : (f : Limits → ℕ) → f (limitsOf v) ≡ f l = λ f. ap f q in
+      let keys : size (usedOf v .keys) ≡ 0 = sym (key-count v) ∙ ap (λ (x : Market). length (x .prints .keyRows)) m in
+      let pairs : size (usedOf v .counts) ≡ 0 = sym (pair-count v) ∙ ap (λ (x : Market). length (x .prints .countRows)) m in
       record {
         sized = record {
           header = omega arith;
@@ -47,6 +50,8 @@ module _ (l : Limits) (start : ℕ) (w : List ℕ) where
           events = rw (limit (λ x. x .G)) (b .events);
           keys = rw (limit (λ x. x .C)) (b .keys);
           pairs = rw (limit (λ x. x .D)) (b .pairs);
+          newKeys = omega (arith, keys);
+          newPairs = omega (arith, pairs);
         };
         kinds = λ i k. absurd (omega (arith, none));
         market = subst Rules.Sound (sym m) (fresh-sound e h);

@@ -14,11 +14,13 @@ use Rattle.words.specs.Words.{Says}
 use Rattle.words.proofs.Parts.{part-length}
 use Rattle.log.specs.declared.Head.{Head}
 use Rattle.prints.specs.declared.Used.{Used}
+use Rattle.rows.specs.Tables.{size}
 use Rattle.prints.specs.Area.{printsOf, Fits}
+use Rattle.prints.proofs.Tables.{fits}
 use Rattle.store.specs.Store.{layout, layoutOf, limitsOf, headOf, lineCount, usedOf, tablesAt, linesAt, tableWords, marketOf, Sized}
 use Rattle.store.specs.Moves.{Counts}
 use Rattle.store.proofs.MarketLaws.{market-prints}
-use Rattle.sound.specs.Parts.{Ranged}
+use Rattle.sound.specs.Parts.{FewNew, Ranged}
 use Rattle.sound.proofs.RangeLaws.{bounds}
 
 -- ---- layout, limits and length
@@ -30,8 +32,11 @@ module _ (w : List ℕ) (l : Limits) (q : l ≡ limitsOf w) where
   pub short : length w < wordsNeeded l → Ranged w → ⊥
   short h r = let n : wordsNeeded l ≡ wordsNeeded (limitsOf w) = ap wordsNeeded q in omega (arith, r .sized .long)
 
-  pub ranged : 64 ≤ length w → layoutOf w ≡ layout → inRange l ≡ true → wordsNeeded l ≤ length w → Ranged w
-  ranged h v e long =
+  pub crowded : (FewNew w → ⊥) → Ranged w → ⊥
+  crowded n r = n (record { keys = r .sized .newKeys; pairs = r .sized .newPairs })
+
+  pub ranged : 64 ≤ length w → layoutOf w ≡ layout → inRange l ≡ true → wordsNeeded l ≤ length w → FewNew w → Ranged w
+  ranged h v e long few =
       let range : inRange (limitsOf w) ≡ true = ap inRange (sym q) ∙ e in
       let b = bounds (limitsOf w) range in
       let n : wordsNeeded l ≡ wordsNeeded (limitsOf w) = ap wordsNeeded q in
@@ -45,6 +50,8 @@ module _ (w : List ℕ) (l : Limits) (q : l ≡ limitsOf w) where
           events = b .events;
           keys = b .keys;
           pairs = b .pairs;
+          newKeys = few .keys;
+          newPairs = few .pairs;
         };
         range = range;
       }
@@ -55,8 +62,8 @@ pub record CountsFit (l : Limits) (h : Head) (n : ℕ) (u : Used) : Type 0 where
   pub entries : h .count ≤ l .G
   pub numbers : h .base + h .count < 2 ^ 64
   pub lines : n ≤ l .L
-  pub keys : u .keys ≤ l .C
-  pub pairs : u .counts ≤ l .D
+  pub keys : size (u .keys) ≤ l .C
+  pub pairs : size (u .counts) ≤ l .D
 
 module _ (w : List ℕ) {l : Limits} {h : Head} {n : ℕ} {u : Used} (p : l ≡ limitsOf w) (q : h ≡ headOf w) (r : n ≡ lineCount w) (t : u ≡ usedOf w) where
   pub counts-read : Counts w → CountsFit l h n u
@@ -73,8 +80,14 @@ module _ (w x : List ℕ) (c : ℕ) (u : Used) (k : c ≡ limitsOf w .C) (p : x 
   pub tables-ready : Sized w → Counts w → Fits c x u
   tables-ready z n =
       let l = part-length (tablesAt (limitsOf w)) (linesAt (limitsOf w)) w (omega (arith, z .long)) in
-      let pairs : u .counts ≡ usedOf w .counts = ap (λ (y : Used). y .counts) q in
-      record { keys = omega (arith, ap (λ (y : Used). y .keys) q, n .keys); counts = omega (arith, ap length p, l, n .pairs) }
+      fits c (limitsOf w .D) x u
+      (record {
+        whole = ap length p ∙ l ∙ omega arith;
+        keys = omega (arith, ap (λ (y : Used). size (y .keys)) q, n .keys);
+        counts = omega (arith, ap (λ (y : Used). size (y .counts)) q, n .pairs);
+        newKeys = omega (arith, ap (λ (y : Used). y .keys .new) q, z .newKeys);
+        newCounts = omega (arith, ap (λ (y : Used). y .counts .new) q, z .newPairs);
+      })
 
   pub tables-say : (r : Bool) → Says r (TablesSound (printsOf c x u)) → Says r (TablesSound (marketOf w .prints))
   tables-say r s = subst (λ (y : Prints). Says r (TablesSound y)) ((λ j. printsOf (k j) (p j) (q j)) ∙ sym (market-prints w)) s

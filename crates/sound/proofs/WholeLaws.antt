@@ -11,7 +11,7 @@ use Rattle.rules.specs.Lines as Rules
 use Rattle.rules.specs.Sound.{ConnSound, LineSound, Lower, TablesSound}
 use Rattle.words.specs.Words.{tab, Says}
 use Rattle.words.proofs.Cases.{below-or}
-use Rattle.prints.proofs.Lists.{each-of, each-in, rising-of, rising-in}
+use Rattle.words.proofs.Lists.{each-of, each-in, rising-of, rising-in}
 use Rattle.lines.specs.AreaSound.{LineFits}
 use Rattle.store.specs.Store.{limitsOf, headOf, lineCount, connIn, marketOf, Sound}
 use Rattle.store.specs.Moves.{Counts}

@@ -6,9 +6,15 @@ use Prim.Native.Nat.{ℕ, _+_, _-_, _≤_, _<_}
 use Rattle.rules.specs.Quantities.{inRange, maxNumber}
 use Rattle.rules.specs.Lines.{connAt, itemCount}
 use Rattle.lines.specs.AreaSound.{AreaSound}
-use Rattle.store.specs.Store.{limitsOf, headOf, lineCount, lineWordsAt, marketOf, Sized}
+use Rattle.rows.specs.Tables.{mostNew}
+use Rattle.store.specs.Store.{limitsOf, headOf, lineCount, usedOf, lineWordsAt, marketOf, Sized}
 
--- of this layout, long enough for its limits, and no limit is 0 or too large
+-- neither table has more new rows than it may
+pub record FewNew (w : List ℕ) : Type 0 where
+  pub keys : usedOf w .keys .new ≤ mostNew
+  pub pairs : usedOf w .counts .new ≤ mostNew
+
+-- of this layout, with few new rows, long enough for its limits, and no limit is 0 or too large
 pub record Ranged (w : List ℕ) : Type 0 where
   pub sized : Sized w
   pub range : inRange (limitsOf w) ≡ true

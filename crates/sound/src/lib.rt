@@ -1,13 +1,17 @@
 // Whether any words are a sound store.
 ghost use mathlib.Core.Path.{_≡_};
 ghost use mathlib.Core.Bool.{true};
+ghost use Prim.Native.Nat.{_≤_};
+ghost use lib.ListN.{length};
 ghost use Rattle.rules.specs.Quantities.{inRange, wordsNeeded};
 ghost use Rattle.rules.specs.Sound.{TablesSound};
 ghost use Rattle.words.specs.Words.{Says};
+ghost use Rattle.rows.specs.Tables.{size};
 ghost use Rattle.store.specs.Store.{marketOf, Sized, Sound};
 ghost use Rattle.store.specs.Moves.{Counts};
 ghost use Rattle.store.specs.ConnMoves.{LineAt};
-ghost use Rattle.sound.specs.Parts.{Ranged, Above, SoundAt, EachSound, ItemsFit};
+ghost use Rattle.sound.specs.Parts.{FewNew, Ranged, Above, SoundAt, EachSound, ItemsFit};
+use rows::Runs;
 use rules::Limits;
 
 // The largest event number.
@@ -33,7 +37,22 @@ pub fn words_needed(l: Limits) -> u64
     64 + l.L * (7 * l.H + 64) + 3 * l.G + 4 * l.C + 4 * l.D
 }
 
-// Whether the words are of this layout, and long enough for their limits, which are in range.
+// Whether neither table has more new rows than it may.
+fn few_new(s: &[u64]) -> bool
+    requires { ⌜ 64 ≤ length (now s) ⌝ }
+    ensures { λ r. ⌜ Says r (FewNew (now (s .entry))) ⌝ }
+{
+    let used = store::tables::used(s);
+    if rows::MOST_NEW < used.keys.new {
+        return false;
+    }
+    if rows::MOST_NEW < used.counts.new {
+        return false;
+    }
+    true
+}
+
+// Whether the words are of this layout, with few new rows, and long enough for their limits, which are in range.
 fn sized(s: &[u64]) -> bool
     ensures { λ r. ⌜ Says r (Ranged (now (s .entry))) ⌝ }
 {
@@ -48,6 +67,20 @@ fn sized(s: &[u64]) -> bool
         return false;
     }
     if (s.len() as u64) < words_needed(l) {
+        return false;
+    }
+    few_new(s)
+}
+
+// Whether a table's rows are at most so many.
+fn within(u: Runs, limit: u64) -> bool
+    ensures { λ r. ⌜ Says r (size u ≤ limit) ⌝ }
+{
+    let old = u.old as u64;
+    if limit < old {
+        return false;
+    }
+    if limit - old < u.new as u64 {
         return false;
     }
     true
@@ -72,10 +105,10 @@ fn counted(s: &[u64]) -> bool
     if l.L < lines {
         return false;
     }
-    if l.C < used.keys as u64 {
+    if !within(used.keys, l.C) {
         return false;
     }
-    if l.D < used.counts as u64 {
+    if !within(used.counts, l.D) {
         return false;
     }
     true
@@ -87,7 +120,7 @@ fn tables_sound(s: &[u64]) -> bool
     ensures { λ r. ⌜ Says r (TablesSound (marketOf (now (s .entry)) .prints)) ⌝ }
 {
     let c = store::entries::limits(s).C as usize;
-    prints::tables_sound(store::tables::area(s), c, store::tables::used(s))
+    prints::sound::tables_sound(store::tables::area(s), c, store::tables::used(s))
 }
 
 // Whether the i-th connection is above the one before it.

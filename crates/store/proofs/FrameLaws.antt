@@ -16,15 +16,16 @@ use Rattle.words.proofs.Tab.{tab-ext}
 use Rattle.words.proofs.Cases.{below-or}
 use Rattle.log.specs.declared.Head.{Head}
 use Rattle.log.specs.Log.{logOf}
+use Rattle.rows.specs.Tables.{mostNew}
 use Rattle.prints.specs.declared.Used.{Used}
 use Rattle.prints.specs.Area.{printsOf}
 use Rattle.lines.specs.Area.{connOf}
 use Rattle.lines.proofs.AreaLaws.{stamp-back}
-use Rattle.store.specs.Store.{layoutOf, limitsOf, headIn, headWords, headOf, lineCount, usedOf, tablesAt, linesAt, lineWidth, lineStart, logWords, tableWords, lineWordsAt, connIn, marketOf, Sized, KindsKnown, Sound}
+use Rattle.store.specs.Store.{layoutOf, limitsOf, headIn, headWords, headOf, lineCount, usedOf, putUsed, tablesAt, linesAt, lineWidth, lineStart, logWords, tableWords, lineWordsAt, connIn, marketOf, Sized, KindsKnown, Sound}
 use Rattle.store.specs.Moves.{Moved}
 use Rattle.store.proofs.MarketLaws.{market-limits, market-by}
 
--- ---- the words of a store after part of them came back: the log's head, the log's words, the tables' words, how many rows are in use
+-- ---- the words of a store after part of them came back: the log's head, the log's words, the tables' words
 
 abbrev pub putHead : Head → List ℕ → List ℕ
 putHead h w = back 5 9 (headWords h) w
@@ -34,9 +35,6 @@ putLog ys w = back 64 (tablesAt (limitsOf w)) ys w
 
 abbrev pub putTables : List ℕ → List ℕ → List ℕ
 putTables ys w = back (tablesAt (limitsOf w)) (linesAt (limitsOf w)) ys w
-
-abbrev pub putUsed : Used → List ℕ → List ℕ
-putUsed u w = set (set w 10 (u .keys)) 11 (u .counts)
 
 -- ---- a change of some words
 
@@ -52,22 +50,15 @@ only-back {a} {e} {ys} {w} h =
       others = λ i n. ⊎-elim (back-below a e ys w h i) (λ l. back-above a e ys w h i (⊎-elim (λ m. absurd (n l m)) (λ m. m) (below-or i e))) (below-or i a);
     }
 
--- two words set
-pub only-set : {w : List ℕ} (k m n : ℕ) → Only k (k + 2) w (set (set w k m) (k + 1) n)
-only-set {w} k m n =
-    record {
-      size = simp length-set;
-      others = λ i h. getD-set-other (set w k m) (k + 1) i n 0 (λ q. h (omega arith) (omega arith)) ∙ getD-set-other w k i m 0 (λ q. h (omega arith) (omega arith));
-    }
-
 -- the words from the a-th on, to the end
 drop-ext : (a : ℕ) (v w : List ℕ) → length v ≡ length w → ((i : ℕ) → a ≤ i → getD v i 0 ≡ getD w i 0) → drop a v ≡ drop a w
 drop-ext a v w e h =
     ext-getD 0 (drop a v) (drop a w) (simp length-drop (omega arith)) (λ i l. getD-drop a v i 0 ∙ h (a + i) (omega arith) ∙ sym (getD-drop a w i 0))
 
--- a store of the same layout, limits and length is sized too
-pub sized-same : (v w : List ℕ) → layoutOf v ≡ layoutOf w → limitsOf v ≡ limitsOf w → length v ≡ length w → Sized w → Sized v
-sized-same v w y q n s =
+-- a store of the same layout, limits and length, and few new rows, is sized too
+pub sized-same : (v w : List ℕ) → layoutOf v ≡ layoutOf w → limitsOf v ≡ limitsOf w → length v ≡ length w
+    → usedOf v .keys .new ≤ mostNew → usedOf v .counts .new ≤ mostNew → Sized w → Sized v
+sized-same v w y q n few few′ s =
     let limits : (f : Limits → ℕ) → f (limitsOf v) ≡ f (limitsOf w) = λ f. ap f q in
     record {
       header = rw n (s .header);
@@ -78,6 +69,8 @@ sized-same v w y q n s =
       events = rw (limits (λ l. l .G)) (s .events);
       keys = rw (limits (λ l. l .C)) (s .keys);
       pairs = rw (limits (λ l. l .D)) (s .pairs);
+      newKeys = few;
+      newPairs = few′;
     }
 
 -- ---- what stays where the limits' words do
@@ -89,8 +82,11 @@ module _ {a e : ℕ} {w v : List ℕ} (o : Only a e w v) (below : 5 ≤ a) where
   pub limits-stay : limitsOf v ≡ limitsOf w
   limits-stay = λ j. record { L = low 0 (omega arith) j; H = low 1 (omega arith) j; G = low 2 (omega arith) j; C = low 3 (omega arith) j; D = low 4 (omega arith) j }
 
-  pub sized-stay : (a ≤ 12 → 12 < e → ⊥) → Sized w → Sized v
-  sized-stay apart z = sized-same v w (o .others 12 apart) limits-stay (o .size) z
+  pub sized-stay : ((i : ℕ) → 10 ≤ i → i < 15 → a ≤ i → i < e → ⊥) → Sized w → Sized v
+  sized-stay apart z =
+      let keys : getD v 13 0 ≡ getD w 13 0 = o .others 13 (apart 13 (omega arith) (omega arith)) in
+      let pairs : getD v 14 0 ≡ getD w 14 0 = o .others 14 (apart 14 (omega arith) (omega arith)) in
+      sized-same v w (o .others 12 (apart 12 (omega arith) (omega arith))) limits-stay (o .size) (omega (arith, z .newKeys)) (omega (arith, z .newPairs)) z
 
   -- a part that the change leaves
   pub part-stays : (b f : ℕ) → f ≤ length w → ((i : ℕ) → b ≤ i → i < f → a ≤ i → i < e → ⊥) → part b f v ≡ part b f w
@@ -100,11 +96,13 @@ module _ {a e : ℕ} {w v : List ℕ} (o : Only a e w v) (below : 5 ≤ a) where
     pub head-stays : 9 ≤ a → headOf v ≡ headOf w
     head-stays l = ap headIn (part-stays 5 9 (omega arith) (λ i p q r s. omega arith))
 
-    pub used-stays : ((i : ℕ) → 10 ≤ i → i < 12 → a ≤ i → i < e → ⊥) → usedOf v ≡ usedOf w
+    pub used-stays : ((i : ℕ) → 10 ≤ i → i < 15 → a ≤ i → i < e → ⊥) → usedOf v ≡ usedOf w
     used-stays apart =
         let keys = o .others 10 (apart 10 (omega arith) (omega arith)) in
         let counts = o .others 11 (apart 11 (omega arith) (omega arith)) in
-        λ j. record { keys = keys j; counts = counts j }
+        let newKeys = o .others 13 (apart 13 (omega arith) (omega arith)) in
+        let newCounts = o .others 14 (apart 14 (omega arith) (omega arith)) in
+        λ j. record { keys = record { old = keys j; new = newKeys j }; counts = record { old = counts j; new = newCounts j } }
 
     pub log-stays : ((i : ℕ) → 64 ≤ i → i < tablesAt (limitsOf w) → a ≤ i → i < e → ⊥) → logWords v ≡ logWords w
     log-stays apart = ap (λ (l : Limits). part 64 (tablesAt l) v) limits-stay ∙ part-stays 64 (tablesAt (limitsOf w)) (omega arith) apart
@@ -112,8 +110,8 @@ module _ {a e : ℕ} {w v : List ℕ} (o : Only a e w v) (below : 5 ≤ a) where
     pub tables-stay : ((i : ℕ) → tablesAt (limitsOf w) ≤ i → i < linesAt (limitsOf w) → a ≤ i → i < e → ⊥) → tableWords v ≡ tableWords w
     tables-stay apart = ap (λ (l : Limits). part (tablesAt l) (linesAt l) v) limits-stay ∙ part-stays (tablesAt (limitsOf w)) (linesAt (limitsOf w)) (omega arith) apart
 
-    -- ---- a change neither in the lines' words nor in their count, nor of the layout
-    module _ (one : a ≤ 9 → 9 < e → ⊥) (two : a ≤ 12 → 12 < e → ⊥) (ends : e ≤ linesAt (limitsOf w)) where
+    -- ---- a change neither in the lines' words nor in their count
+    module _ (one : a ≤ 9 → 9 < e → ⊥) (ends : e ≤ linesAt (limitsOf w)) (sized : Sized v) where
       line-stays : (i : ℕ) → lineWordsAt v i ≡ lineWordsAt w i
       line-stays i =
           let b = lineStart (limitsOf w) i in
@@ -137,7 +135,7 @@ module _ {a e : ℕ} {w v : List ℕ} (o : Only a e w v) (below : 5 ≤ a) where
       moved-to x h t u =
           record {
             market = market-by v w limits-stay x h t u lines-stay;
-            sized = sized-stay two z;
+            sized = sized;
             kinds = kinds-stay;
           }
 
@@ -169,7 +167,7 @@ module _ (w : List ℕ) (h : Head) (z : Sized w) where
   unfolding marketOf
   head-moved =
       let o = only-back head-loan in
-      moved-to o (omega arith) z (λ p q. omega arith) (λ p q. omega arith) (omega arith)
+      moved-to o (omega arith) z (λ p q. omega arith) (omega arith) (sized-stay o (omega arith) (λ i p q r s. omega arith) z)
       (log-stays o (omega arith) z (λ i p q r s. omega arith))
       (ap headIn (part-same 5 9 (headWords h) w head-loan) ∙ head-back h)
       (tables-stay o (omega arith) z (λ i p q r s. omega arith))
@@ -190,7 +188,7 @@ module _ (w ys : List ℕ) (z : Sized w) (kept : length ys ≡ 3 * limitsOf w .G
   unfolding marketOf
   log-moved =
       let o = only-back log-loan in
-      moved-to o (omega arith) z (λ p q. omega arith) (λ p q. omega arith) (omega arith)
+      moved-to o (omega arith) z (λ p q. omega arith) (omega arith) (sized-stay o (omega arith) (λ i p q r s. omega arith) z)
       log-put
       (head-stays o (omega arith) z (omega arith))
       (tables-stay o (omega arith) z (λ i p q r s. omega arith))
@@ -211,7 +209,7 @@ module _ (w ys : List ℕ) (z : Sized w) (kept : length ys ≡ 4 * limitsOf w .C
   unfolding marketOf
   tables-moved =
       let o = only-back tables-loan in
-      moved-to o (omega arith) z (λ p q. omega arith) (λ p q. omega arith) (omega arith)
+      moved-to o (omega arith) z (λ p q. omega arith) (omega arith) (sized-stay o (omega arith) (λ i p q r s. omega arith) z)
       (log-stays o (omega arith) z (λ i p q r s. omega arith))
       (head-stays o (omega arith) z (omega arith))
       tables-put
@@ -219,18 +217,52 @@ module _ (w ys : List ℕ) (z : Sized w) (kept : length ys ≡ 4 * limitsOf w .C
 
 -- ---- the counts of the tables' rows are set to those of u
 module _ (w : List ℕ) (u : Used) (z : Sized w) where
-  used-put : usedOf (putUsed u w) ≡ u
-  used-put =
-      let keys : getD (putUsed u w) 10 0 ≡ u .keys = getD-set-other (set w 10 (u .keys)) 11 10 (u .counts) 0 (omega arith) ∙ getD-set-same w 10 (u .keys) 0 (omega arith) in
-      let counts : getD (putUsed u w) 11 0 ≡ u .counts = getD-set-same (set w 10 (u .keys)) 11 (u .counts) 0 (simp length-set (omega arith)) in
-      λ j. record { keys = keys j; counts = counts j }
+  only-used : Only 10 15 w (putUsed u w)
+  only-used =
+      let x = set w 10 (u .keys .old) in
+      let y = set x 11 (u .counts .old) in
+      record {
+        size = simp length-set;
+        others = λ i h.
+            getD-set-other (set y 13 (u .keys .new)) 14 i (u .counts .new) 0 (λ q. h (omega arith) (omega arith))
+            ∙ getD-set-other y 13 i (u .keys .new) 0 (λ q. h (omega arith) (omega arith))
+            ∙ getD-set-other x 11 i (u .counts .old) 0 (λ q. h (omega arith) (omega arith))
+            ∙ getD-set-other w 10 i (u .keys .old) 0 (λ q. h (omega arith) (omega arith));
+      }
 
-  pub used-moved : Moved w (putUsed u w) (withPrints (printsOf (limitsOf w .C) (tableWords w) u) (marketOf w))
+  pub used-put : usedOf (putUsed u w) ≡ u
+  used-put =
+      let x = set w 10 (u .keys .old) in
+      let y = set x 11 (u .counts .old) in
+      let r = set y 13 (u .keys .new) in
+      let keys : getD (putUsed u w) 10 0 ≡ u .keys .old =
+      getD-set-other r 14 10 (u .counts .new) 0 (omega arith) ∙ getD-set-other y 13 10 (u .keys .new) 0 (omega arith)
+      ∙ getD-set-other x 11 10 (u .counts .old) 0 (omega arith) ∙ getD-set-same w 10 (u .keys .old) 0 (omega arith) in
+      let counts : getD (putUsed u w) 11 0 ≡ u .counts .old =
+      getD-set-other r 14 11 (u .counts .new) 0 (omega arith) ∙ getD-set-other y 13 11 (u .keys .new) 0 (omega arith)
+      ∙ getD-set-same x 11 (u .counts .old) 0 (simp length-set (omega arith)) in
+      let newKeys : getD (putUsed u w) 13 0 ≡ u .keys .new =
+      getD-set-other r 14 13 (u .counts .new) 0 (omega arith) ∙ getD-set-same y 13 (u .keys .new) 0 (simp length-set (omega arith)) in
+      let newCounts : getD (putUsed u w) 14 0 ≡ u .counts .new = getD-set-same r 14 (u .counts .new) 0 (simp length-set (omega arith)) in
+      λ j. record { keys = record { old = keys j; new = newKeys j }; counts = record { old = counts j; new = newCounts j } }
+
+  pub used-tables : tableWords (putUsed u w) ≡ tableWords w
+  used-tables = tables-stay only-used (omega arith) z (λ i p q r s. omega arith)
+
+  pub used-moved : u .keys .new ≤ mostNew → u .counts .new ≤ mostNew → Moved w (putUsed u w) (withPrints (printsOf (limitsOf w .C) (tableWords w) u) (marketOf w))
   unfolding marketOf
-  used-moved =
-      let o : Only 10 12 w (putUsed u w) = only-set 10 (u .keys) (u .counts) in
-      moved-to o (omega arith) z (λ p q. omega arith) (λ p q. omega arith) (omega arith)
+  used-moved few few′ =
+      let o = only-used in
+      let layout : layoutOf (putUsed u w) ≡ layoutOf w =
+      let x = set w 10 (u .keys .old) in
+      let y = set x 11 (u .counts .old) in
+      getD-set-other (set y 13 (u .keys .new)) 14 12 (u .counts .new) 0 (omega arith) ∙ getD-set-other y 13 12 (u .keys .new) 0 (omega arith)
+      ∙ getD-set-other x 11 12 (u .counts .old) 0 (omega arith) ∙ getD-set-other w 10 12 (u .keys .old) 0 (omega arith) in
+      let keys : usedOf (putUsed u w) .keys .new ≡ u .keys .new = ap (λ (r : Used). r .keys .new) used-put in
+      let pairs : usedOf (putUsed u w) .counts .new ≡ u .counts .new = ap (λ (r : Used). r .counts .new) used-put in
+      moved-to o (omega arith) z (λ p q. omega arith) (omega arith)
+      (sized-same (putUsed u w) w layout (limits-stay o (omega arith)) (o .size) (omega arith) (omega arith) z)
       (log-stays o (omega arith) z (λ i p q r s. omega arith))
       (head-stays o (omega arith) z (omega arith))
-      (tables-stay o (omega arith) z (λ i p q r s. omega arith))
+      used-tables
       used-put

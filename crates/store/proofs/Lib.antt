@@ -6,3 +6,4 @@ pub mod LineFrame
 pub mod ConnLaws
 pub mod Relisted
 pub mod AreaMoves
+pub mod AreaSteps

@@ -2,8 +2,8 @@
 use mathlib.Core.Path.{_≡_, sym, ap, _∙_, subst}
 use mathlib.Core.Logic.{⊎-elim}
 use mathlib.Core.List.{List}
-use Prim.Native.Nat.{ℕ, _+_, _≤_, _<_}
-use native.Mathlib.Nat.{mul-le-mul-right}
+use Prim.Native.Nat.{ℕ, suc, _+_, _≤_, _<_}
+use native.Mathlib.Nat.{mul-le-mul-right, suc-mul}
 use native.Mathlib.Omega.{arith}
 use lib.ListN.{length, getD, set}
 use Rattle.rules.specs.declared.Limits.{Limits}
@@ -24,6 +24,10 @@ start-fits w z i h = omega (arith, mul-le-mul-right (lineWidth (limitsOf w)) h)
 
 pub area-fits : (w : List ℕ) → Sized w → (i : ℕ) → i < limitsOf w .L → lineStart (limitsOf w) i + lineWidth (limitsOf w) ≤ length w
 area-fits w z i h = omega (arith, row-before i (limitsOf w .L) (lineWidth (limitsOf w)) h)
+
+-- each ends where the next starts
+pub next-start : (l : Limits) (j : ℕ) → lineStart l (suc j) ≡ lineStart l j + lineWidth l
+next-start l j = omega (arith, suc-mul j (lineWidth l))
 
 pub line-fits : (w : List ℕ) (i : ℕ) → LineAt w i → lineStart (limitsOf w) i + lineWidth (limitsOf w) ≤ length w
 line-fits w i f = area-fits w (f .lined .sized) i (omega arith)
@@ -99,7 +103,7 @@ module _ (w ys : List ℕ) (i : ℕ) (f : LineAt w i) (kept : length ys ≡ line
 
   pub frame-sized : Sized (back (lineStart (limitsOf w) i) (lineStart (limitsOf w) i + lineWidth (limitsOf w)) ys w)
   unfolding a e v
-  frame-sized = sized-stay only (omega arith) (λ p q. omega arith) (f .lined .sized)
+  frame-sized = sized-stay only (omega arith) (λ i p q r s. omega arith) (f .lined .sized)
 
   pub frame-kinds : getD ys 1 0 ≤ 3 → KindsKnown w → KindsKnown (back (lineStart (limitsOf w) i) (lineStart (limitsOf w) i + lineWidth (limitsOf w)) ys w)
   unfolding a e v

@@ -3,8 +3,7 @@ use mathlib.Core.Path.{_≡_, refl, sym, ap, _∙_}
 use mathlib.Core.List.{List, [], _∷_}
 use Prim.Native.Nat.{ℕ, _+_, _*_, _≤_, _<_}
 use native.Mathlib.Omega.{arith}
-use lib.ListN.{length, getD, set, length-set}
-use lib.Seq.{getD-set-same}
+use lib.ListN.{length, getD}
 use Rattle.rules.specs.declared.Limits.{Limits}
 use Rattle.rules.specs.Log.{Log, keys, end}
 use Rattle.rules.specs.Lines.{Connection, connAt, nobody, fresh}
@@ -15,7 +14,9 @@ use Rattle.log.specs.declared.Head.{Head}
 use Rattle.log.specs.Log.{keyIn, keysIn, logOf}
 use Rattle.log.proofs.Reading.{log-base, log-last, log-length, log-end, log-keys}
 use Rattle.prints.specs.declared.Used.{Used}
-use Rattle.prints.specs.Area.{printsOf, keyAt, countAt}
+use Rattle.rows.specs.Tables.{size, tableOf}
+use Rattle.prints.specs.Area.{printsOf}
+use Rattle.prints.proofs.Tables.{key-rows, count-rows}
 use Rattle.store.specs.Store.{layoutOf, limitsOf, headOf, lineCount, usedOf, logWords, keyWords, tableWords, connIn, marketOf}
 
 module _ (w : List ℕ) where
@@ -62,13 +63,13 @@ module _ (w : List ℕ) where
 
   -- ---- the prints
 
-  pub key-count : length (marketOf w .prints .keyRows) ≡ usedOf w .keys
-  unfolding marketOf printsOf
-  key-count = length-tab (usedOf w .keys) (keyAt (tableWords w))
+  pub key-count : length (marketOf w .prints .keyRows) ≡ size (usedOf w .keys)
+  unfolding marketOf
+  key-count = key-rows (limitsOf w .C) (tableWords w) (usedOf w)
 
-  pub pair-count : length (marketOf w .prints .countRows) ≡ usedOf w .counts
-  unfolding marketOf printsOf
-  pair-count = length-tab (usedOf w .counts) (countAt (limitsOf w .C) (tableWords w))
+  pub pair-count : length (marketOf w .prints .countRows) ≡ size (usedOf w .counts)
+  unfolding marketOf
+  pair-count = count-rows (limitsOf w .C) (tableWords w) (usedOf w)
 
   -- ---- the lines
 
@@ -86,22 +87,18 @@ unfolding marketOf
 market-by v w l x h t u ls = λ j. record { limits = l j; log = logOf (l j .G) (x j) (h j); prints = printsOf (l j .C) (t j) (u j); lines = ls j }
 
 -- the header of an empty store: the limits, base, zeros, and the layout v
-module _ (l : Limits) (start : ℕ) (w x y : List ℕ) (v : ℕ) (p : x ≡ l .L ∷ l .H ∷ l .G ∷ l .C ∷ l .D ∷ start ∷ 0 ∷ 0 ∷ []) (q : y ≡ 0 ∷ 0 ∷ 0 ∷ 0 ∷ []) where
+module _ (l : Limits) (start : ℕ) (w x y : List ℕ) (v : ℕ) (p : x ≡ l .L ∷ l .H ∷ l .G ∷ l .C ∷ l .D ∷ start ∷ 0 ∷ 0 ∷ []) (q : y ≡ 0 ∷ 0 ∷ 0 ∷ 0 ∷ v ∷ 0 ∷ 0 ∷ 0 ∷ []) where
   abbrev pub emptied : List ℕ
-  emptied = set (back 8 12 y (back 0 8 x w)) 12 v
+  emptied = back 8 16 y (back 0 8 x w)
 
   pub market-empty : marketOf emptied ≡ fresh l start
-  unfolding marketOf logOf printsOf
-  market-empty = λ j. marketOf (set (back 8 12 (q j) (back 0 8 (p j) w)) 12 v)
+  unfolding marketOf logOf printsOf tableOf
+  market-empty = λ j. marketOf (back 8 16 (q j) (back 0 8 (p j) w))
 
-  module _ (h : 64 ≤ length w) where
-    length-put : length (back 8 12 y (back 0 8 x w)) ≡ length w
-    length-put =
-        let a : length (back 0 8 x w) ≡ length w = length-back 0 8 x w (record { kept = ap length p; start = omega arith; inside = omega arith }) in
-        length-back 8 12 y (back 0 8 x w) (record { kept = ap length q; start = omega arith; inside = omega arith }) ∙ a
+  pub layout-empty : layoutOf emptied ≡ v
+  layout-empty = λ j. layoutOf (back 8 16 (q j) (back 0 8 (p j) w))
 
-    pub length-empty : length emptied ≡ length w
-    length-empty = length-set (back 8 12 y (back 0 8 x w)) 12 v ∙ length-put
-
-    pub layout-empty : layoutOf emptied ≡ v
-    layout-empty = getD-set-same (back 8 12 y (back 0 8 x w)) 12 v 0 (omega (arith, length-put))
+  pub length-empty : 64 ≤ length w → length emptied ≡ length w
+  length-empty h =
+      let a : length (back 0 8 x w) ≡ length w = length-back 0 8 x w (record { kept = ap length p; start = omega arith; inside = omega arith }) in
+      length-back 8 16 y (back 0 8 x w) (record { kept = ap length q; start = omega arith; inside = omega arith }) ∙ a

@@ -4,29 +4,17 @@ use mathlib.Core.List.{List}
 use Prim.Native.Nat.{ℕ, _+_, _≤_, _<_}
 use native.Mathlib.Omega.{arith}
 use lib.ListN.{length, getD}
-use lib.Seq.{ext-getD}
 use Rattle.rules.specs.declared.Limits.{Limits}
 use Rattle.rules.specs.Lines.{Connection, withLines}
 use Rattle.words.specs.Words.{part, tab}
 use Rattle.words.proofs.Cases.{row-before}
-use Rattle.words.proofs.Parts.{part-length, getD-part, part-ext}
+use Rattle.words.proofs.Parts.{part-ext}
 use Rattle.lines.specs.Area.{connOf}
 use Rattle.store.specs.Store.{limitsOf, headIn, headOf, lineCount, usedOf, tablesAt, linesAt, lineWidth, lineStart, logWords, tableWords, connIn, marketOf, Sized, KindsKnown}
 use Rattle.store.specs.Moves.{Moved}
 use Rattle.store.proofs.LineFrame.{area-fits, areaIn}
 use Rattle.store.proofs.MarketLaws.{market-by}
 use Rattle.store.proofs.FrameLaws.{sized-same}
-
--- parts of the same words
-pub part-at : (a b n : ℕ) (v w : List ℕ) → a + n ≤ length v → b + n ≤ length w → ((i : ℕ) → i < n → getD v (a + i) 0 ≡ getD w (b + i) 0)
-    → part a (a + n) v ≡ part b (b + n) w
-part-at a b n v w hv hw h =
-    let lv : length (part a (a + n) v) ≡ n = part-length a (a + n) v hv ∙ omega arith in
-    let lw : length (part b (b + n) w) ≡ n = part-length b (b + n) w hw ∙ omega arith in
-    ext-getD 0 (part a (a + n) v) (part b (b + n) w) (lv ∙ sym lw)
-    (λ i l. getD-part a (a + n) v i (omega arith) ∙ h i (omega arith) ∙ sym (getD-part b (b + n) w i (omega arith)))
-
--- ---- other lines
 
 -- v is w but for the count of lines and the words from the i-th line's on
 pub record Relisted (w v : List ℕ) (i : ℕ) : Type 0 where
@@ -49,10 +37,8 @@ module _ (w v : List ℕ) (i : ℕ) (z : Sized w) (r : Relisted w v i) where
   pub relisted-before : i ≤ limitsOf w .L → (j : ℕ) → j < i → areaIn (limitsOf w) v j ≡ areaIn (limitsOf w) w j
   relisted-before h j l =
       let o = row-before j i (lineWidth (limitsOf w)) l in
-      let s : length v ≡ length w = r .size in
-      let fits = area-fits w z j (omega arith) in
-      part-at (lineStart (limitsOf w) j) (lineStart (limitsOf w) j) (lineWidth (limitsOf w)) v w (omega arith) fits
-      (λ k m. r .same (lineStart (limitsOf w) j + k) (omega arith) (λ q. omega arith))
+      part-ext (lineStart (limitsOf w) j) (lineStart (limitsOf w) j + lineWidth (limitsOf w)) v w (r .size) (area-fits w z j (omega arith))
+      (λ k m n. r .same k (omega arith) (λ q. omega arith))
 
   before : (b d : ℕ) → d ≤ linesAt (limitsOf w) → ((j : ℕ) → b ≤ j → j < d → j ≡ 9 → ⊥) → part b d v ≡ part b d w
   before b d h n = part-ext b d v w (r .size) (omega arith) (λ j l m. r .same j (omega arith) (n j l m))
@@ -67,7 +53,10 @@ module _ (w v : List ℕ) (i : ℕ) (z : Sized w) (r : Relisted w v i) where
       let head : headOf v ≡ headOf w = ap headIn (before 5 9 (omega arith) (λ j l m q. omega arith)) in
       let keys = word 10 (omega arith) (λ q. omega arith) in
       let counts = word 11 (omega arith) (λ q. omega arith) in
-      let used : usedOf v ≡ usedOf w = λ t. record { keys = keys t; counts = counts t } in
+      let newKeys = word 13 (omega arith) (λ q. omega arith) in
+      let newCounts = word 14 (omega arith) (λ q. omega arith) in
+      let used : usedOf v ≡ usedOf w = λ t.
+      record { keys = record { old = keys t; new = newKeys t }; counts = record { old = counts t; new = newCounts t } } in
       let lines : tab (lineCount v) (connIn v) ≡ ls = ap (λ (l : Limits). tab (lineCount v) (λ j. connOf (l .H) (areaIn l v j))) limits ∙ e in
       market-by v w limits log head tables used lines
 
@@ -75,8 +64,10 @@ module _ (w v : List ℕ) (i : ℕ) (z : Sized w) (r : Relisted w v i) where
   pub relisted-moved : (ls : List Connection) → tab (lineCount v) (λ j. connOf (limitsOf w .H) (areaIn (limitsOf w) v j)) ≡ ls
       → (KindsKnown w → (j : ℕ) → j < lineCount v → getD (areaIn (limitsOf w) v j) 1 0 ≤ 3) → Moved w v (withLines ls (marketOf w))
   relisted-moved ls e k =
+      let keys = word 13 (omega arith) (λ q. omega arith) in
+      let pairs = word 14 (omega arith) (λ q. omega arith) in
       record {
         market = relisted-market ls e;
-        sized = sized-same v w (word 12 (omega arith) (λ q. omega arith)) limits (r .size) z;
+        sized = sized-same v w (word 12 (omega arith) (λ q. omega arith)) limits (r .size) (omega (arith, keys, z .newKeys)) (omega (arith, pairs, z .newPairs)) z;
         kinds = λ s j h. subst (λ (l : Limits). getD (areaIn l v j) 1 0 ≤ 3) (sym limits) (k s j h);
       }

@@ -2,7 +2,7 @@
 use mathlib.Core.Path.{_≡_}
 use mathlib.Core.List.{List, [], _∷_}
 use Prim.Native.Nat.{ℕ, _+_, _*_, _≤_, _<_}
-use lib.ListN.{length, getD}
+use lib.ListN.{length, getD, set}
 use Rattle.rules.specs.declared.Limits.{Limits}
 use Rattle.rules.specs.Quantities.{wordsNeeded}
 use Rattle.rules.specs.Lines.{Connection, Market}
@@ -10,6 +10,7 @@ use Rattle.rules.specs.Sound as Rules
 use Rattle.words.specs.Words.{part, tab}
 use Rattle.log.specs.declared.Head.{Head}
 use Rattle.log.specs.Log.{logOf}
+use Rattle.rows.specs.Tables.{mostNew}
 use Rattle.prints.specs.declared.Used.{Used}
 use Rattle.prints.specs.Area.{printsOf}
 use Rattle.lines.specs.Area.{stampIn, stampFlag, stampTime, connOf}
@@ -33,11 +34,15 @@ abbrev pub lineCount : List ℕ → ℕ
 lineCount w = getD w 9 0
 
 abbrev pub usedOf : List ℕ → Used
-usedOf w = record { keys = getD w 10 0; counts = getD w 11 0 }
+usedOf w = record { keys = record { old = getD w 10 0; new = getD w 13 0 }; counts = record { old = getD w 11 0; new = getD w 14 0 } }
+
+-- the words with u rows in use
+abbrev pub putUsed : Used → List ℕ → List ℕ
+putUsed u w = set (set (set (set w 10 (u .keys .old)) 11 (u .counts .old)) 13 (u .keys .new)) 14 (u .counts .new)
 
 -- the layout of a store's words, which every change of it raises; setup writes it
 abbrev pub layout : ℕ
-layout = 1
+layout = 2
 
 abbrev pub layoutOf : List ℕ → ℕ
 layoutOf w = getD w 12 0
@@ -86,7 +91,7 @@ marketOf w =
 
 -- ---- sound
 
--- of this layout, and long enough for its limits, which are in range
+-- of this layout, with few new rows in its tables, and long enough for its limits, which are in range
 pub record Sized (w : List ℕ) : Type 0 where
   pub header : 64 ≤ length w
   pub version : layoutOf w ≡ layout
@@ -96,6 +101,8 @@ pub record Sized (w : List ℕ) : Type 0 where
   pub events : limitsOf w .G ≤ 1048576
   pub keys : limitsOf w .C ≤ 65536
   pub pairs : limitsOf w .D ≤ 65536
+  pub newKeys : usedOf w .keys .new ≤ mostNew
+  pub newPairs : usedOf w .counts .new ≤ mostNew
 
 -- each line's kind is known
 abbrev pub KindsKnown : List ℕ → Type 0

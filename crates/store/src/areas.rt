@@ -50,13 +50,18 @@ pub fn take_out(s: &mut [u64], i: usize)
     requires { ⌜ LineAt (now s) i ⌝ }
     ensures { λ _. ⌜ Moved (now (s .entry)) (now (s .exit)) (withLines (without i (marketOf (now (s .entry)) .lines)) (marketOf (now (s .entry)))) ⌝ }
 {
-    let n = s[9] as usize;
+    let last = s[9] as usize - 1;
     let h = s[1] as usize;
     let width = 7 * h + 64;
-    let a = line_start(s, i);
-    let e = line_start(s, n);
-    words::move_down(&mut s[a..e], width, e - a - width);
-    s[9] = (n - 1) as u64;
+    let mut j = i;
+    let mut a = line_start(s, i);
+    while j < last {
+        let b = a + width;
+        lines::area::copy(s, h, b, a);
+        a = b;
+        j += 1;
+    }
+    s[9] = last as u64;
 }
 
 // A line of the connection comes to stand at place i: the areas from there on move up by one.
@@ -68,10 +73,14 @@ pub fn insert(s: &mut [u64], i: usize, conn: u64, t: u64)
     let n = s[9] as usize;
     let h = s[1] as usize;
     let width = 7 * h + 64;
-    let a = line_start(s, i);
-    let b = line_start(s, n);
-    let e = b + width;
-    words::move_up(&mut s[a..e], width, b - a);
+    let mut j = n;
+    let mut a = line_start(s, n);
+    while i < j {
+        let b = a - width;
+        lines::area::copy(s, h, b, a);
+        a = b;
+        j -= 1;
+    }
     let f = a + width;
     lines::area::put_waiting(&mut s[a..f], conn, t);
     s[9] = (n + 1) as u64;

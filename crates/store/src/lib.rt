@@ -12,7 +12,7 @@ ghost use Rattle.rules.specs.Lines.{fresh};
 ghost use Rattle.store.specs.Store.{layout, layoutOf, marketOf};
 
 // The layout of a store's words; docs/LAYOUT.md says what each number stands for.
-pub const LAYOUT: u64 = 1;
+pub const LAYOUT: u64 = 2;
 
 // The layout that the words say they have.
 pub fn layout(s: &[u64]) -> u64
@@ -28,6 +28,5 @@ pub fn put_header(s: &mut [u64], l: Limits, start: u64)
     ensures { λ _. ⌜ (marketOf (now (s .exit)) ≡ fresh l start) × (layoutOf (now (s .exit)) ≡ layout) ⌝ }
 {
     words::put8(&mut s[0..8], l.L, l.H, l.G, l.C, l.D, start, 0, 0);
-    words::put4(&mut s[8..12], 0, 0, 0, 0);
-    s[12] = LAYOUT;
+    words::put8(&mut s[8..16], 0, 0, 0, 0, LAYOUT, 0, 0, 0);
 }

@@ -1,4 +1,4 @@
--- Words moved to the front, or up, one by one.
+-- Words moved to the front, or copied to other places, one by one.
 use mathlib.Core.Path.{_≡_, refl, ap, _∙_, subst}
 use mathlib.Core.Logic.{⊎-elim}
 use mathlib.Core.List.{List}
@@ -7,7 +7,7 @@ use native.Mathlib.Nat.{zero-add}
 use native.Mathlib.Omega.{arith}
 use lib.ListN.{length, getD, set, length-set}
 use lib.Seq.{getD-set-same, getD-set-other}
-use Rattle.words.specs.Words.{Moved, MovedUp}
+use Rattle.words.specs.Words.{Moved, Apart, Copied}
 use Rattle.words.proofs.Cases.{below-or}
 
 pub moved-none : (from : ℕ) (v : List ℕ) → Moved from v v 0
@@ -57,17 +57,24 @@ moved-four from v w i m h =
     at : (v : List ℕ) (a b : ℕ) → a ≡ b → getD v a 0 ≡ getD v b 0
     at v a b e = ap (λ (k : ℕ). getD v k 0) e
 
-pub up-none : (to : ℕ) (v : List ℕ) (n : ℕ) → MovedUp to v v n n
-up-none to v n = record { size = refl; done = λ j h l. omega arith; rest = λ j h. refl }
+-- ---- words copied to other places
 
-pub up-more : (to : ℕ) (v w : List ℕ) (k i n : ℕ) → k ≡ i + 1 → MovedUp to v w k n → to + i < length w → MovedUp to v (set w (to + i) (getD w i 0)) i n
-up-more to v w k i n e m h =
+pub copied-none : (from to : ℕ) (v : List ℕ) → Copied from to v v 0
+copied-none from to v = record { size = refl; done = λ j h. omega arith; below = λ j h. refl; above = λ j h. refl }
+
+pub copied-more : (from to n : ℕ) (v w : List ℕ) (i : ℕ) → Apart from to n → Copied from to v w i → i < n → to + i < length w
+    → Copied from to v (set w (to + i) (getD w (from + i) 0)) (i + 1)
+copied-more from to n v w i p m l h =
+    let x : ℕ = getD w (from + i) 0 in
+    let e : getD w (from + i) 0 ≡ getD v (from + i) 0 =
+    ⊎-elim (λ a. m .below (from + i) (omega arith)) (λ a. m .above (from + i) (omega arith)) p in
     record {
-      size = length-set w (to + i) (getD w i 0) ∙ m .size;
-      done = λ j l b.
+      size = length-set w (to + i) x ∙ m .size;
+      done = λ j k.
           ⊎-elim
-          (λ o. getD-set-other w (to + i) (to + j) (getD w i 0) 0 (omega arith) ∙ m .done j (omega arith) b)
-          (λ o. let q : j ≡ i = omega arith in rw q (getD-set-same w (to + i) (getD w i 0) 0 h ∙ m .rest i (omega arith)))
-          (below-or i j);
-      rest = λ j l. getD-set-other w (to + i) j (getD w i 0) 0 (omega arith) ∙ m .rest j (omega arith);
+          (λ b. getD-set-other w (to + i) (to + j) x 0 (omega arith) ∙ m .done j b)
+          (λ b. let q : j ≡ i = omega arith in rw q (getD-set-same w (to + i) x 0 h ∙ e))
+          (below-or j i);
+      below = λ j k. getD-set-other w (to + i) j x 0 (omega arith) ∙ m .below j k;
+      above = λ j k. getD-set-other w (to + i) j x 0 (omega arith) ∙ m .above j (omega arith);
     }

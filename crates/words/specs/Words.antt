@@ -1,6 +1,7 @@
 -- Lists of words: parts that are lent and come back, lists made from an index, words moved; and what a test says.
 -- The forms are those of the borrow checker, so that no goal is rewritten to meet a law.
 use mathlib.Core.Path.{_≡_}
+use mathlib.Core.Logic.{_⊎_}
 use mathlib.Core.List.{List, [], _∷_, _++_}
 use mathlib.Core.Bool.{Bool, true, false}
 use Prim.Native.Nat.{ℕ, zero, suc, _+_, _-_, _≤_, _<_}
@@ -29,11 +30,16 @@ pub record Moved (from : ℕ) (v w : List ℕ) (i : ℕ) : Type 0 where
   pub done : (j : ℕ) → j < i → getD w j 0 ≡ getD v (from + j) 0
   pub rest : (j : ℕ) → i ≤ j → getD w j 0 ≡ getD v j 0
 
--- w is v with its words from i on and below n copied `to` places higher
-pub record MovedUp (to : ℕ) (v w : List ℕ) (i n : ℕ) : Type 0 where
+-- the n words at a and the n words at b are others
+abbrev pub Apart : ℕ → ℕ → ℕ → Type 0
+Apart a b n = (a + n ≤ b) ⊎ (b + n ≤ a)
+
+-- w is v with i of its words from `from` on written from `to` on
+pub record Copied (from to : ℕ) (v w : List ℕ) (i : ℕ) : Type 0 where
   pub size : length w ≡ length v
-  pub done : (j : ℕ) → i ≤ j → j < n → getD w (to + j) 0 ≡ getD v j 0
-  pub rest : (j : ℕ) → j < to + i → getD w j 0 ≡ getD v j 0
+  pub done : (j : ℕ) → j < i → getD w (to + j) 0 ≡ getD v (from + j) 0
+  pub below : (j : ℕ) → j < to → getD w j 0 ≡ getD v j 0
+  pub above : (j : ℕ) → to + i ≤ j → getD w j 0 ≡ getD v j 0
 
 -- a test's answer says whether P
 abbrev pub Says : Bool → Type 0 → Type 0

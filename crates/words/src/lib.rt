@@ -3,7 +3,7 @@ ghost use Prim.Native.Nat.{_+_, _≤_};
 ghost use lib.ListN.{length};
 ghost use mathlib.Core.Path.{_≡_};
 ghost use mathlib.Core.List.{[], _∷_};
-ghost use Rattle.words.specs.Words.{Moved, MovedUp};
+ghost use Rattle.words.specs.Words.{Moved, Apart, Copied};
 
 // Moves words from `from` to the front, four at a time; how many of n were moved.
 fn move_fours(s: &mut [u64], from: usize, n: usize) -> usize
@@ -40,15 +40,15 @@ pub fn move_down(s: &mut [u64], from: usize, n: usize)
     }
 }
 
-// Moves the first n words up by `to` places, the last one first.
-pub fn move_up(s: &mut [u64], to: usize, n: usize)
-    requires { ⌜ to + n ≤ length (now s) ⌝ }
-    ensures { λ r. ⌜ MovedUp to (now (s .entry)) (now (s .exit)) 0 n ⌝ }
+// Copies the n words from `from` on to the places from `to` on, which are others.
+pub fn copy(s: &mut [u64], from: usize, to: usize, n: usize)
+    requires { ⌜ (Apart from to n) × ((from + n ≤ length (now s)) × (to + n ≤ length (now s))) ⌝ }
+    ensures { λ r. ⌜ Copied from to (now (s .entry)) (now (s .exit)) n ⌝ }
 {
-    let mut i = n;
-    while 0 < i {
-        i -= 1;
-        s[to + i] = s[i];
+    let mut j = 0;
+    while j < n {
+        s[to + j] = s[from + j];
+        j += 1;
     }
 }
 

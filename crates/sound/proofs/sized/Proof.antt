@@ -3,8 +3,10 @@ use mathlib.Core.Bool.{true}
 use native.Mathlib.Omega.{arith}
 use Rattle.rules.specs.Quantities.{inRange}
 use Rattle.store.specs.Store.{layout, layoutOf}
+use Rattle.words.proofs.Cases.{says, says-yes, says-no}
+use Rattle.sound.specs.Parts.{FewNew, Ranged}
 use borrow.Author.Tests.{not-true, not-false}
-use Rattle.sound.proofs.HeaderLaws.{outside, short, ranged}
+use Rattle.sound.proofs.HeaderLaws.{outside, short, crowded, ranged}
 use borrow.Author.Needs.{needs}
 use Rattle.sound.proofs.sized.Statement.{statement}
 use Rattle.sound.proofs.sized.Tie as tie
@@ -29,11 +31,14 @@ returns-4 c =
 
 returns-5 : tie.Need-returns-5
 returns-5 c =
-    let l = c .before .before .before .before in
-    let n = c .before .words-needed .ensures in
+    let e = c .before in
+    let l = e .before .before .before .before in
+    let n = e .before .words-needed .ensures in
     let w = l .before .before .before .before .before .args .s .now in
     let v : layoutOf w ≡ layout = omega (arith, l .before .before .layout .ensures, l .before .if2 .left) in
-    ranged w (l .limits .result) (l .limits .ensures) (omega arith) v (in-range-told (c .before .before)) (omega arith)
+    says (c .few-new .result) (Ranged w)
+    (λ t. ranged w (l .limits .result) (l .limits .ensures) (omega arith) v (in-range-told (e .before .before)) (omega arith) (says-yes (FewNew w) (c .few-new .ensures) t))
+    (λ t. crowded w (l .limits .result) (l .limits .ensures) (says-no (FewNew w) (c .few-new .ensures) t))
 
 pub sized-spec : {M : Type 1} → statement M
 sized-spec =
@@ -47,4 +52,5 @@ sized-spec =
     returns-3
     words-needed-requires
     returns-4
+    (λ c κs. search needs)
     returns-5)

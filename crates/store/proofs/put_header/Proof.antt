@@ -5,16 +5,18 @@ use Rattle.store.proofs.put_header.Tie as tie
 
 same-length : tie.Need-same-length
 same-length c =
-    let p = c .before .before .before .before .before .before in
+    let q = c .before .before in
+    let p = q .before .before .before .before in
     let a = p .before .before .before in
-    length-empty (a .args .l) (a .args .start) (a .args .s .now) _ _ 1 (p .put8 .ensures) (c .before .before .put4 .ensures) (a .pre)
+    length-empty (a .args .l) (a .args .start) (a .args .s .now) _ _ 2 (p .put8 .ensures) (q .put82 .ensures) (a .pre)
 
 returns : tie.Need-returns
 returns c =
-    let p = c .before .before .before .before .before .before in
+    let q = c .before .before in
+    let p = q .before .before .before .before in
     let a = p .before .before .before in (
-      market-empty (a .args .l) (a .args .start) (a .args .s .now) _ _ 1 (p .put8 .ensures) (c .before .before .put4 .ensures),
-      layout-empty (a .args .l) (a .args .start) (a .args .s .now) _ _ 1 (p .put8 .ensures) (c .before .before .put4 .ensures) (a .pre),
+      market-empty (a .args .l) (a .args .start) (a .args .s .now) _ _ 2 (p .put8 .ensures) (q .put82 .ensures),
+      layout-empty (a .args .l) (a .args .start) (a .args .s .now) _ _ 2 (p .put8 .ensures) (q .put82 .ensures),
     )
 
 pub put-header-spec : {M : Type 1} → statement M
@@ -29,6 +31,5 @@ put-header-spec =
     (λ c. search needs)
     (λ c. search needs)
     (λ c κs. search needs)
-    (λ c. search needs)
     same-length
     returns)

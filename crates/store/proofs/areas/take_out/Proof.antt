@@ -1,62 +1,71 @@
+use mathlib.Core.Path.{refl}
+use Prim.Native.Nat.{_-_}
 use native.Mathlib.Omega.{arith}
-use lib.ListN.{length-take, length-drop}
-use Rattle.store.proofs.AreaMoves.{closed-fits, closed-done}
+use lib.ListN.{length-set}
+use Rattle.store.proofs.AreaSteps.{Closing, closing-start, closing-ready, closing-more, closing-done}
 use borrow.Author.Needs.{needs}
 use Rattle.store.proofs.areas.take_out.Statement.{statement}
 use Rattle.store.proofs.areas.take_out.Tie as tie
 
-sub-move-down : tie.Need-sub-move-down
-sub-move-down c =
-    let f = closed-fits _ _ _ _ (c .before .before .before .before .before .before .before .pre) (c .before .before .line-start .ensures) (c .line-start2 .ensures) in
-    omega arith
+abbrev Inv-loop : tie.InvT-loop
+Inv-loop s₀ i last h width j₀ a₀ s j a = Closing s₀ s i j a
 
-part-move-down-start : tie.Need-part-move-down-start
-part-move-down-start c =
-    let f = closed-fits _ _ _ _ (c .before .before .before .before .before .before .before .pre) (c .before .before .line-start .ensures) (c .line-start2 .ensures) in
-    omega arith
+abbrev μ-loop : tie.MeasureT-loop
+μ-loop s₀ i last h width j₀ a₀ s j a = last - j
 
-sub-move-down-2 : tie.Need-sub-move-down-2
-sub-move-down-2 c =
-    let b = c .before in
-    let f = closed-fits _ _ _ _ (b .before .before .before .before .before .before .before .pre) (b .before .before .line-start .ensures) (b .line-start2 .ensures) in
-    omega arith
+loop-holds : tie.Need-loop-holds Inv-loop μ-loop
+loop-holds c = closing-start _ _ (c .before .before .before .before .before .pre) _ (c .line-start .ensures)
 
-sub-move-down-3 : tie.Need-sub-move-down-3
-sub-move-down-3 c =
-    let b = c .before in
-    let f = closed-fits _ _ _ _ (b .before .before .before .before .before .before .before .pre) (b .before .before .line-start .ensures) (b .line-start2 .ensures) in
-    omega arith
+add-b : tie.Need-add-b Inv-loop μ-loop
+add-b c =
+    let l = c .before .loop in
+    let s = c .before .before .before .before .before .before .before in
+    let r = closing-ready _ _ (s .pre) _ _ _ (l .inv) (omega arith) in
+    omega (arith, r .target, l .inv .size)
 
-move-down-requires : tie.Need-move-down-requires
-move-down-requires c κs =
-    let b = c .before in
-    let f = closed-fits _ _ _ _ (b .before .before .before .before .before .before .before .pre) (b .before .before .line-start .ensures) (b .line-start2 .ensures) in
-    simp (length-take, length-drop) (omega arith)
+copy-requires : tie.Need-copy-requires Inv-loop μ-loop
+copy-requires c κs =
+    let l = c .before .before .loop in
+    let s = c .before .before .before .before .before .before .before .before in
+    closing-ready _ _ (s .pre) _ _ _ (l .inv) (omega arith)
 
-returns : tie.Need-returns
+loop-again : tie.Need-loop-again Inv-loop μ-loop
+loop-again c =
+    let l = c .before .before .before .before .before .loop in
+    let s = c .before .before .before .before .before .before .before .before .before .before .before in
+    closing-more _ _ (s .pre) _ _ _ (l .inv) (omega arith) _ (c .before .before .copy .ensures) _ _ refl (omega arith)
+
+slice-write-s : tie.Need-slice-write-s Inv-loop μ-loop
+slice-write-s c =
+    let s = c .before .before .before .before .before .before .before in
+    omega (arith, c .before .loop .inv .size, s .pre .lined .sized .header)
+
+same-length : tie.Need-same-length Inv-loop μ-loop
+same-length c = simp length-set (c .before .loop .inv .size)
+
+returns : tie.Need-returns Inv-loop μ-loop
 returns c =
-    let a = c .before .before .before .before .before .before .before .before .before .before .before in
-    closed-done _ _ (a .args .i) _ _ (a .pre)
-    (c .before .before .before .before .before .before .line-start .ensures) (c .before .before .before .before .line-start2 .ensures) (c .before .before .move-down .ensures)
+    let s = c .before .before .before .before .before .before .before in
+    closing-done _ _ (s .pre) _ _ _ _ (c .before .loop .inv) refl (omega arith)
 
 pub take-out-spec : {M : Type 1} → statement M
 take-out-spec =
     tie.close
     (tie.spec
+    Inv-loop
+    μ-loop
+    (λ c. search needs)
     (λ c. search needs)
     (λ c. search needs)
     (λ c. search needs)
     (λ c. search needs)
     (λ c κs. search needs)
-    (λ c κs. search needs)
-    (λ c. search needs)
-    sub-move-down
-    part-move-down-start
-    (λ c. search needs)
-    sub-move-down-2
-    sub-move-down-3
-    move-down-requires
-    (λ c. search needs)
-    (λ c. search needs)
-    (λ c. search needs)
+    loop-holds
+    add-b
+    copy-requires
+    (λ c. omega arith)
+    (λ c. omega arith)
+    loop-again
+    slice-write-s
+    same-length
     returns)

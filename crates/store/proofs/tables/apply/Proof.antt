@@ -1,5 +1,5 @@
 use Rattle.rules.specs.Prints.{applyPrint}
-use Rattle.store.proofs.TableLaws.{tables-part, tables-ready, rows-done}
+use Rattle.store.proofs.TableLaws.{tables-part, tables-ready, key-here, rows-done}
 use borrow.Author.Needs.{needs}
 use Rattle.store.proofs.tables.apply.Statement.{statement}
 use Rattle.store.proofs.tables.apply.Tie as tie
@@ -10,7 +10,9 @@ apply-requires c κs =
     let e = u .before .before in
     let a = e .before .before in
     let s = a .before .before .before .before in
-    tables-ready (s .pre) (tables-part _ (a .tables-start .ensures) (e .lines-start .ensures)) (u .used .ensures)
+    let p = tables-part _ (a .tables-start .ensures) (e .lines-start .ensures) in
+    let r = tables-ready (s .pre .0) p (u .used .ensures) in
+    (r .0, (r .1, key-here (s .pre .0) p (u .used .ensures) (s .args .key) (s .args .place) (s .pre .1)))
 
 returns : tie.Need-returns
 returns c =
@@ -20,7 +22,7 @@ returns c =
     let a = e .before .before in
     let s = a .before .before .before .before in
     rows-done (a .tables-start .ensures) (e .lines-start .ensures) (u .used .ensures) (p .apply .last .0)
-    (applyPrint (s .args .key) (s .args .n)) (s .pre) (p .apply .kept .0) (p .apply .ensures)
+    (applyPrint (s .args .key) (s .args .n)) (s .pre .0) (p .apply .kept .0) (p .apply .ensures)
 
 pub apply-spec : {M : Type 1} → statement M
 apply-spec =

@@ -14,13 +14,14 @@ expire-requires c κs =
 
 returns : tie.Need-returns
 returns c =
-    let p = c .before .before .before .before .before .before in
+    let q = c .before .before in
+    let p = q .before .before .before .before in
     let u = p .before .before in
     let e = u .before .before in
     let a = e .before .before in
     let s = a .before .before .before .before in
     tables-done (a .tables-start .ensures) (e .lines-start .ensures) (u .used .ensures) (p .expire .last .0)
-    (expirePrints (s .args .t)) (s .pre) (p .expire .kept .0) (p .expire .result) (p .expire .ensures .0) (c .before .before .put-used .ensures)
+    (expirePrints (s .args .t)) (s .pre) (p .expire .kept .0) (p .expire .result) (p .expire .ensures .1) (p .expire .ensures .0) (q .put-used .ensures)
 
 pub expire-spec : {M : Type 1} → statement M
 expire-spec =
