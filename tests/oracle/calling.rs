@@ -36,8 +36,9 @@ pub struct Maker<'a> {
     // the only token, in a list of one
     token: Option<u64>,
     now: u64,
-    // how many of the calls are book events
+    // how many of the calls are book events, and how many prints
     busy: u64,
+    prints: u64,
     made: u64,
 }
 
@@ -55,14 +56,16 @@ impl<'a> Maker<'a> {
         let big = r.percent(10);
         let mut conns: Vec<u64> = (0..x.l.max(1) + r.below(2)).map(|i| if big { u64::MAX - 3 * i } else { i }).collect();
         conns.sort();
-        let pool = if x.c > 20 && r.percent(20) { 40 } else { r.between(2, 6) };
+        let pool = if x.c > 20 { r.between(30, 200) } else { r.between(2, 6) };
         let first = r.of(&[0, 7]);
         let keys: Vec<Key> = (0..pool).map(|i| (first + i / 2, 9 + i % 2)).collect();
         let stream = stream(r, &keys);
         let now = if r.percent(10) { u64::MAX - 50_000 } else { r.between(0, 40_000) };
         let token = if r.percent(8) { Some(r.below(2)) } else { None };
         let busy = if token.is_some() { r.between(1, 20) } else { r.between(10, 150) };
-        Maker { r, x, conns, keys, stream, at: BTreeMap::new(), token, now, busy, made: 0 }
+        // with many print keys most calls are prints, so that the tables fill
+        let prints = if x.c > 20 { r.between(100, 2_000) } else { 0 };
+        Maker { r, x, conns, keys, stream, at: BTreeMap::new(), token, now, busy, prints, made: 0 }
     }
 
     // A market made by hand, and its words.
@@ -187,6 +190,9 @@ impl<'a> Maker<'a> {
         if self.r.percent(15) && Self::wants_tick(m) {
             return Call::Tick;
         }
+        if self.r.below(100 + self.prints) >= 100 {
+            return self.print(m);
+        }
         match self.r.below(50 + self.busy) {
             _ if self.r.percent(60) && m.each_line().all(|l| matches!(l, Line::Failed)) => self.subscribe(m),
             0..=10 => self.print(m),
@@ -242,7 +248,7 @@ impl<'a> Maker<'a> {
     fn manner(&mut self) -> Manner {
         let x = self.x;
         let changes =
-            [(0, 17), (1, 0), (2, u64::MAX), (3, 65_537), (4, 0), (6, x.g + 1), (9, x.l + 1), (10, x.c + 1), (11, x.d + 1)];
+            [(0, 17), (1, 0), (2, u64::MAX), (3, 65_537), (4, 0), (6, x.g + 1), (9, x.l + 1), (10, x.c + 1), (11, x.d + 1), (13, 513), (14, 513)];
         match self.r.below(10) {
             0 => Manner::Right,
             1 => Manner::Short(self.r.of(&[1, 1, 64, x.store() - 63, x.store()])),

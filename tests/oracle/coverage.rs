@@ -21,6 +21,14 @@ const CALLS: [(&str, &[&str], &[u64]); 13] = [
 ];
 const RECORDS: [&str; 4] = ["snapshot", "book", "print", "print, times 2 or more"];
 const REPORTS: [&str; 3] = ["aligned", "rebuild", "failed"];
+// What becomes of the new rows of the print tables.
+const ROWS: [&str; 5] = [
+    "a key put among the new ones",
+    "new keys merged by a print",
+    "a pair put among the new ones",
+    "new pairs merged by a print",
+    "new rows merged by a tick",
+];
 const LISTS: [&str; 5] = ["L 1", "L 16", "H 1", "H 5000", "from a market made by hand"];
 
 // Of a call, a record, a report, a list or a line's change: its word (for a change the old kind, then the new), and a refusal's number.
@@ -72,6 +80,19 @@ impl Seen {
         }
     }
 
+    // How many rows of keys and of pairs stood in order, and how many new ones behind them, before a call and after it.
+    pub fn rows(&mut self, call: &Call, before: [(u64, u64); 2], after: [(u64, u64); 2]) {
+        for (i, ((old, new), (old_after, new_after))) in before.into_iter().zip(after).enumerate() {
+            let word = match call {
+                Call::Print { .. } if old_after > old => ROWS[2 * i + 1],
+                Call::Print { .. } if new_after > new => ROWS[2 * i],
+                Call::Tick if new > 0 && new_after == 0 => ROWS[4],
+                _ => continue,
+            };
+            self.see(("rows", word, "", 0));
+        }
+    }
+
     // What a list starts from.
     pub fn list(&mut self, x: Limits, by_hand: bool) {
         for (word, yes) in LISTS.into_iter().zip([x.l == 1, x.l == MOST.l, x.h == 1, x.h == MOST.h, by_hand]) {
@@ -115,13 +136,14 @@ impl Seen {
         none
     }
 
-    // The same of what lists start from.
+    // The same of the tables' rows and of what lists start from.
     pub fn lists(&self) -> Vec<String> {
-        let counts = LISTS.map(|word| (word, self.count(("list", word, "", 0))));
-        for (word, n) in counts {
-            println!("{n:>12}  list: {word}");
+        let words = ROWS.map(|word| ("rows", word)).into_iter().chain(LISTS.map(|word| ("list", word)));
+        let counts: Vec<_> = words.map(|(what, word)| (format!("{what}: {word}"), self.count((what, word, "", 0)))).collect();
+        for (text, n) in &counts {
+            println!("{n:>12}  {text}");
         }
-        counts.iter().filter(|(_, n)| *n == 0).map(|(word, _)| format!("list: {word}")).collect()
+        counts.into_iter().filter(|(_, n)| *n == 0).map(|(text, _)| text).collect()
     }
 
     // Prints how often a line's kind changed.

@@ -42,7 +42,7 @@ impl Places {
             .fold(0, |sum, at| w[at + 2].wrapping_add(sum));
         let room = x.g.wrapping_sub(items);
         let top = u64::MAX.wrapping_sub(w[6]).wrapping_sub(items);
-        match r.below(12) {
+        match r.below(14) {
             0 => {
                 (5, r.of(&[top, top.wrapping_add(1), top.wrapping_sub(1), w[5].wrapping_add(1), w[5].wrapping_sub(1), u64::MAX]))
             }
@@ -52,7 +52,11 @@ impl Places {
             5 | 6 => (10, r.of(&[0, x.c, x.c + 1, w[10].wrapping_add(1), w[10].wrapping_sub(1)])),
             7 | 8 => (11, r.of(&[0, x.d, x.d + 1, w[11].wrapping_add(1), w[11].wrapping_sub(1)])),
             9 if r.percent(50) => (12, edge(r, LAYOUT)),
-            9 => (r.between(13, 63) as usize, r.next()),
+            9 => (r.between(15, 63) as usize, r.next()),
+            10 | 11 => {
+                let i = r.between(13, 14) as usize;
+                (i, r.of(&[0, 1, 512, 513, w[i].wrapping_add(1), w[i].wrapping_sub(1), u64::MAX]))
+            }
             _ => {
                 let i = r.below(5) as usize;
                 (i, r.of(&[0, 1, MOST.all()[i], MOST.all()[i] + 1, w[i].wrapping_add(1), w[i].wrapping_sub(1), u64::MAX]))
@@ -82,9 +86,18 @@ impl Places {
         }
     }
 
+    // Where one of the two tables starts, how many rows of it are in use, and its limit.
+    fn table(&self, w: &[u64], r: &mut Random) -> (usize, u64, u64) {
+        if r.percent(50) {
+            (self.keys, w[10].saturating_add(w[13]), self.x.c)
+        } else {
+            (self.counts, w[11].saturating_add(w[14]), self.x.d)
+        }
+    }
+
     // A word of a print row: like the row's before it or behind it, or near to it.
     fn row(&self, w: &[u64], r: &mut Random) -> (usize, u64) {
-        let (table, rows, limit) = if r.percent(50) { (self.keys, w[10], self.x.c) } else { (self.counts, w[11], self.x.d) };
+        let (table, rows, limit) = self.table(w, r);
         let at = table + 4 * r.below(rows.clamp(1, limit)) as usize + r.below(4) as usize;
         let before = w[at - 4];
         let behind = w.get(at + 4).copied().unwrap_or(0);
@@ -92,9 +105,17 @@ impl Places {
         (at, r.of(&[before, behind, near, near, u32::MAX as u64, 1 << 32]))
     }
 
+    // A row written over another: it stands twice, perhaps in both runs.
+    fn repeat(&self, w: &mut [u64], r: &mut Random) {
+        let (table, rows, limit) = self.table(w, r);
+        let from = table + 4 * r.below(rows.clamp(1, limit)) as usize;
+        let to = table + 4 * r.below(rows.clamp(1, limit)) as usize;
+        w.copy_within(from..from + 4, to);
+    }
+
     // Two neighbouring rows exchanged: still each once, but not in order.
     fn exchange(&self, w: &mut [u64], r: &mut Random) {
-        let (table, rows, limit) = if r.percent(50) { (self.keys, w[10], self.x.c) } else { (self.counts, w[11], self.x.d) };
+        let (table, rows, limit) = self.table(w, r);
         if limit > 1 {
             let at = table + 4 * r.below(rows.clamp(2, limit) - 1) as usize;
             let (a, e) = w[at..at + 8].split_at_mut(4);
@@ -108,6 +129,7 @@ impl Places {
             0..=3 => self.header(w, r),
             4..=6 => self.line(w, r),
             7 => self.row(w, r),
+            8 if r.percent(50) => return self.repeat(w, r),
             8 => return self.exchange(w, r),
             _ => {
                 let at = r.below(w.len() as u64) as usize;

@@ -65,6 +65,9 @@ fn limits(r: &mut Random, round: u64) -> Limits {
     }
     let mut x =
         Limits { l: r.between(1, 4), h: r.between(1, 6), g: r.of(&[1, 4, 12, 40, 40]), c: r.between(1, 5), d: r.between(1, 8) };
+    if r.percent(8) {
+        (x.c, x.d) = (r.between(30, 100), r.between(40, 300));
+    }
     if r.percent(1) {
         let low = r.percent(40);
         let out = |most: u64| if low { 0 } else { most + 1 };
@@ -83,7 +86,7 @@ fn limits(r: &mut Random, round: u64) -> Limits {
 fn by_calls(maker: &mut Maker, x: Limits) -> Vec<u64> {
     let start = maker.r.of(&[0, 5, u64::MAX - 20, u64::MAX]);
     let mut lent = Lent::setup(x, start, 0);
-    for _ in 0..maker.r.below(60) {
+    for _ in 0..maker.r.below(if x.c > 20 { 400 } else { 60 }) {
         let m = reading(&lent.store).expect("calls leave a sound store");
         let call = maker.call(&m);
         lent.answers = m.each_line().map(|_| maker.r.below(2)).collect();

@@ -44,6 +44,7 @@ pub struct Step {
 fn limits(r: &mut Random, list: u64) -> Limits {
     let tight = r.percent(15);
     let rows = r.percent(15);
+    let many = r.percent(12);
     let x = Limits {
         l: r.of(&[1, 2, 2, 2, 3, 3, 3, 4, 4, 4]),
         h: match r.below(10) {
@@ -55,6 +56,7 @@ fn limits(r: &mut Random, list: u64) -> Limits {
         c: if rows { r.between(1, 3) } else { r.between(6, 10) },
         d: if rows { r.between(1, 6) } else { r.between(20, 40) },
     };
+    let x = if many { Limits { c: r.between(30, 150), d: r.between(60, 500), ..x } } else { x };
     match list % 1_000 {
         500 => Limits { l: MOST.l, h: MOST.h, g: 100_000, ..x },
         250 | 750 => Limits { h: MOST.h, g: r.between(5_000, 12_000), ..x },
@@ -84,7 +86,7 @@ pub fn setup(r: &mut Random, list: u64) -> Setup {
 pub fn list(r: &mut Random, s: &mut Setup, by_hand: u64, wrong: u64) -> Vec<Step> {
     let x = s.limits;
     let by_hand = r.percent(by_hand);
-    let length = r.between(10, 200);
+    let length = if x.c > 20 { r.between(100, 600) } else { r.between(10, 200) };
     let mut maker = Maker::new(r, x);
     if by_hand {
         s.from = Some(maker.market(5));

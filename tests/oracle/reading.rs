@@ -89,9 +89,10 @@ pub fn reading(w: &[u64]) -> Result<Market, String> {
         let held = a[4 * h + 64..].chunks(3).take(a[9] as usize).map(|p| ((p[0], p[1]), p[2])).collect();
         lines.insert(a[0], (line(a)?, held));
     }
-    let keys: BTreeMap<_, _> = prints.chunks(4).take(w[10] as usize).map(|r| ((r[0], r[1]), (r[2], r[3]))).collect();
-    let counts: BTreeMap<_, _> = prints[4 * c..].chunks(4).take(w[11] as usize).map(|r| (((r[0], r[1]), r[2]), r[3])).collect();
-    if keys.len() != w[10] as usize || counts.len() != w[11] as usize {
+    let (key_rows, count_rows) = ((w[10] + w[13]) as usize, (w[11] + w[14]) as usize);
+    let keys: BTreeMap<_, _> = prints.chunks(4).take(key_rows).map(|r| ((r[0], r[1]), (r[2], r[3]))).collect();
+    let counts: BTreeMap<_, _> = prints[4 * c..].chunks(4).take(count_rows).map(|r| (((r[0], r[1]), r[2]), r[3])).collect();
+    if keys.len() != key_rows || counts.len() != count_rows {
         return Err("a print row stands twice".into());
     }
     Ok(Market {

@@ -80,6 +80,11 @@ impl Manner {
     }
 }
 
+// How many rows of keys and of pairs stand in order, and how many new ones behind them.
+fn rows(w: &[u64]) -> [(u64, u64); 2] {
+    [(w[10], w[13]), (w[11], w[14])]
+}
+
 // The market that the sides agree on is kept.
 struct Sides<'a> {
     setup: &'a Setup,
@@ -127,6 +132,7 @@ impl Sides<'_> {
     }
 
     fn step(&mut self, step: &Step, keys: &HashMap<u64, (u64, Key)>, seen: &mut Seen) -> Result<(), String> {
+        let before = rows(&self.lent.store);
         let p = self.proved(step)?;
         if p.refused != 0 {
             seen.note(&step.call, &p, &self.market, &self.market);
@@ -145,6 +151,7 @@ impl Sides<'_> {
             check_records(&p.records, keys, &self.market, &after)?;
         }
         seen.note(&step.call, &p, &self.market, &after);
+        seen.rows(&step.call, before, rows(&self.lent.store));
         self.market = after;
         Ok(())
     }

@@ -3,7 +3,7 @@
 use crate::words::{Limits, LAYOUT};
 
 // What can be wrong with a store.
-pub const FAULTS: [&str; 21] = [
+pub const FAULTS: [&str; 24] = [
     "shorter than a header",
     "limits out of range",
     "shorter than its limits need",
@@ -25,6 +25,9 @@ pub const FAULTS: [&str; 21] = [
     "log and items above G",
     "end and items above 2^64 - 1",
     "another layout",
+    "more than 512 new rows",
+    "a key stands in both runs",
+    "a pair stands in both runs",
 ];
 
 pub fn sound(w: &[u64]) -> bool {
@@ -52,17 +55,26 @@ fn header(w: &[u64]) -> Result<Limits, usize> {
     need(w.len() >= x.store(), 2)?;
     need(w[6] <= x.g, 3)?;
     need(w[9] <= x.l, 4)?;
-    need(w[10] <= x.c, 5)?;
-    need(w[11] <= x.d, 6)?;
+    need(w[13] <= 512 && w[14] <= 512, 21)?;
+    need(w[10] as u128 + w[13] as u128 <= x.c as u128, 5)?;
+    need(w[11] as u128 + w[14] as u128 <= x.d as u128, 6)?;
     Ok(x)
+}
+
+// Each run rises by its first words; then all rows in order, where none may stand twice.
+fn rows(table: &[u64], old: u64, new: u64, by: usize, faults: [usize; 2]) -> Result<Vec<&[u64]>, usize> {
+    let mut all: Vec<&[u64]> = table.chunks(4).take((old + new) as usize).collect();
+    let (front, back) = all.split_at(old as usize);
+    need([front, back].iter().all(|run| run.windows(2).all(|r| r[0][..by] < r[1][..by])), faults[0])?;
+    all.sort_by_key(|row| &row[..by]);
+    need(all.windows(2).all(|r| r[0][..by] < r[1][..by]), faults[1])?;
+    Ok(all)
 }
 
 fn prints(w: &[u64], x: Limits) -> Result<(), usize> {
     let at = 64 + 3 * x.g as usize;
-    let keys: Vec<&[u64]> = w[at..].chunks(4).take(w[10] as usize).collect();
-    let counts: Vec<&[u64]> = w[at + 4 * x.c as usize..].chunks(4).take(w[11] as usize).collect();
-    need(keys.windows(2).all(|r| r[0][..2] < r[1][..2]), 7)?;
-    need(counts.windows(2).all(|r| r[0][..3] < r[1][..3]), 8)?;
+    let keys = rows(&w[at..], w[10], w[13], 2, [7, 22])?;
+    let counts = rows(&w[at + 4 * x.c as usize..], w[11], w[14], 3, [8, 23])?;
     need(keys.iter().all(|row| row[2] < 1 << 32), 9)?;
     need(counts.iter().all(|row| row[3] < 1 << 32), 10)?;
     need(counts.iter().all(|row| keys.binary_search_by(|key| key[..2].cmp(&row[..2])).is_ok()), 11)

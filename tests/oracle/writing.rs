@@ -11,8 +11,6 @@ pub fn words(m: &Market, x: Limits, r: &mut Random) -> Vec<u64> {
     w[6] = m.log.len() as u64;
     (w[7], w[8]) = stamp(m.last_applied, r);
     w[9] = m.lines.len() as u64;
-    w[10] = m.keys.len() as u64;
-    w[11] = m.counts.len() as u64;
     w[12] = LAYOUT;
     let (g, c, d) = (x.g as usize, x.c as usize, x.d as usize);
     for (i, (key, time)) in m.log.iter().enumerate() {
@@ -20,12 +18,10 @@ pub fn words(m: &Market, x: Limits, r: &mut Random) -> Vec<u64> {
         w[64 + 2 * g + i] = *time;
     }
     let at = 64 + 3 * g;
-    for (i, (key, (applied, touched))) in m.keys.iter().enumerate() {
-        w[at + 4 * i..][..4].copy_from_slice(&[key.0, key.1, *applied, *touched]);
-    }
-    for (i, ((key, conn), delivered)) in m.counts.iter().enumerate() {
-        w[at + 4 * c + 4 * i..][..4].copy_from_slice(&[key.0, key.1, *conn, *delivered]);
-    }
+    let keys = m.keys.iter().map(|(key, (applied, touched))| [key.0, key.1, *applied, *touched]);
+    (w[10], w[13]) = write_rows(&mut w[at..], keys, r);
+    let counts = m.counts.iter().map(|((key, conn), delivered)| [key.0, key.1, *conn, *delivered]);
+    (w[11], w[14]) = write_rows(&mut w[at + 4 * c..], counts, r);
     let areas = w[at + 4 * c + 4 * d..].chunks_mut(7 * x.h as usize + 64);
     for (area, (conn, (line, held))) in areas.zip(&m.lines) {
         area[0] = *conn;
@@ -33,6 +29,20 @@ pub fn words(m: &Market, x: Limits, r: &mut Random) -> Vec<u64> {
         write_held(area, x, held);
     }
     w
+}
+
+// Rows in order as two runs: none of them new, all, or some. Answers how many stand in each.
+fn write_rows(table: &mut [u64], rows: impl Iterator<Item = [u64; 4]>, r: &mut Random) -> (u64, u64) {
+    let share = r.of(&[0, 0, 10, 50, 100]);
+    let (mut old, mut new) = (Vec::new(), Vec::new());
+    for row in rows {
+        let run = if new.len() < 512 && r.percent(share) { &mut new } else { &mut old };
+        run.push(row);
+    }
+    for (place, row) in table.chunks_mut(4).zip(old.iter().chain(&new)) {
+        place.copy_from_slice(row);
+    }
+    (old.len() as u64, new.len() as u64)
 }
 
 fn flag(yes: bool, r: &mut Random) -> u64 {

@@ -93,7 +93,8 @@ impl Single {
             64 + 4 * items + 3 * w(area + 9)
         };
         let lines: usize = (0..w(9)).map(held).sum();
-        let used = 64 + 3 * w(6) + 4 * w(10) + 4 * w(11) + lines;
+        let rows = w(10) + w(11) + w(13) + w(14);
+        let used = 64 + 3 * w(6) + 4 * rows + lines;
         (8 * used, 8 * self.words.len())
     }
 
