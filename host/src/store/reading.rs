@@ -75,8 +75,8 @@ impl Store {
             },
             base: w[5],
             end: w[5] + w[6],
-            keys: w[10],
-            pairs: w[11],
+            keys: w[10] + w[13],
+            pairs: w[11] + w[14],
             lines: (0..self.lines())
                 .map(|line| self.line_reading(line))
                 .collect(),
