@@ -11,7 +11,7 @@ ghost use Rattle.market_tick.specs.Turns.{lentAll};
 ghost use Rattle.steps.specs.Steps.{records, reportRoom};
 ghost use Rattle.promise.specs.Meets.{Promise, ofCall, says};
 
-// A connection subscribes: its line becomes Waiting, empty, since t.
+// A connection subscribes: its delivered counts go, and its line becomes Waiting, empty, since t.
 pub fn subscribe(s: &mut [u64], conn: u64, t: u64) -> Changed
     ensures { λ r. ⌜ Promise (ofCall (Subscribe conn t)) (alone (now (s .entry))) (says (ofChanged r)) (alone (now (s .exit))) ⌝ }
 {

@@ -12,11 +12,11 @@ use Rattle.rules.specs.Lists.{any, count, Each}
 use Rattle.rules.specs.declared.Limits.{Limits}
 use Rattle.rules.specs.Quantities.{Key, inRange, wordsNeeded}
 use lib.Dec.{ltb}
-use Rattle.rules.specs.Lines.{Market, InLine, isPending, fresh}
+use Rattle.rules.specs.Lines.{Market, InLine, isPending, fresh, lineFor}
 use Rattle.rules.specs.Calls.{Outcome, refused, did, done, refuse, just}
 use Rattle.rules.specs.Refusals.{Call, step, setup}
 use Rattle.rules.specs.Answers.{Said, number, word, saidBy}
-use Rattle.rules.specs.Demand.{books, bookKeys, History, follow, run, setUp, lineFor, Agreed, own, GoesOn, Ends, Passed, marketAfter, recordsOf, Unrefused, after, records, answers}
+use Rattle.rules.specs.Demand.{books, bookKeys, History, follow, run, setUp, Agreed, own, GoesOn, Ends, Passed, marketAfter, recordsOf, Unrefused, after, records, answers}
 use Rattle.rules.proofs.ListLaws.{append-nil}
 use Rattle.rules.proofs.Demand3.{demand3}
 use Rattle.store.specs.Store.{marketOf, Sound}

@@ -8,11 +8,11 @@ use Rattle.rules.specs.declared.Limits.{Limits}
 use Rattle.rules.specs.declared.Applied.{Applied}
 use Rattle.rules.specs.Lists.{any, count, Each}
 use Rattle.rules.specs.Quantities.{Key}
-use Rattle.rules.specs.Lines.{InLine, isPending}
+use Rattle.rules.specs.Lines.{InLine, isPending, lineFor}
 use Rattle.rules.specs.Calls.{done}
 use Rattle.rules.specs.Refusals.{Call}
 use Rattle.rules.specs.Answers.{Said, number, word}
-use Rattle.rules.specs.Demand.{books, bookKeys, nowTaken, run, setUp, lineFor, Agreed, own, GoesOn, Ends}
+use Rattle.rules.specs.Demand.{books, bookKeys, nowTaken, run, setUp, Agreed, own, GoesOn, Ends}
 use Rattle.store.specs.Store.{marketOf}
 use Rattle.output.specs.Output.{recordsIn}
 use Rattle.market.specs.Lent.{Lent}

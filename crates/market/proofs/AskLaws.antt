@@ -11,11 +11,12 @@ use Rattle.rules.specs.declared.Item.{Item}
 use Rattle.rules.specs.declared.Limits.{Limits}
 use Rattle.rules.specs.Lists.{any, index}
 use Rattle.rules.specs.Log.{clear}
-use Rattle.rules.specs.Lines.{Connection, Market, nobody, messageOf, isPending, itemsOf, lineOf, connAt, withLog, withLines, subscribed}
+use Rattle.rules.specs.Prints.{removeCounts}
+use Rattle.rules.specs.Lines.{Connection, Market, nobody, messageOf, isPending, itemsOf, lineOf, connAt, withLog, withPrints, withLines, subscribed}
 use Rattle.rules.specs.Calls.{just, done, subscribe, pendingAnew, eachLine, reset}
 use Rattle.rules.specs.Refusals.{messages}
 use Rattle.rules.specs.Answers.{number, word}
-use Rattle.rules.proofs.SoundCalls.{clear-sound, subscribe-safe, reset-sound, just-safe}
+use Rattle.rules.proofs.SoundCalls.{clear-sound, uncounted-sound, subscribe-safe, reset-sound, just-safe}
 use Rattle.place.specs.Items.{itemsIn}
 use Rattle.store.specs.Store.{limitsOf, headOf, lineCount, marketOf, Sized, Sound}
 use Rattle.store.specs.Moves.{Moved}
@@ -64,7 +65,7 @@ missing t l = go (leb (length l) (index t l)) refl
 
 module _ (w : List ℕ) (c : ℕ) {i n : ℕ} {l : Limits} (e : i ≡ lineOf c (marketOf w)) (p : n ≡ lineCount w) (q : l ≡ limitsOf w) where
   -- no line, and no room for one
-  pub full-said : (leb n i && leb (l .L) n) ≡ (not (any (λ s. eqb (s .conn) c) (marketOf w .lines)) && leb (marketOf w .limits .L) (length (marketOf w .lines)))
+  full-said : (leb n i && leb (l .L) n) ≡ (not (any (λ s. eqb (s .conn) c) (marketOf w .lines)) && leb (marketOf w .limits .L) (length (marketOf w .lines)))
   full-said =
       let t : Connection → Bool = λ s. eqb (s .conn) c in
       let ls = marketOf w .lines in
@@ -78,11 +79,24 @@ module _ (w : List ℕ) (c : ℕ) {i n : ℕ} {l : Limits} (e : i ≡ lineOf c (
   unfolding subscribe
   subscribe-full t f = refuses 4 (alone w) (rw (sym full-said ∙ f) refl)
 
-  pub subscribe-done : (v : List ℕ) (t : ℕ) → Sound w → (leb n i && leb (l .L) n) ≡ false → length v ≡ length w
-      → Moved w v (withLines (subscribed c t (marketOf w .lines)) (marketOf w)) → Answers (subscribe c t (marketOf w)) (alone w) (word done 0 0) (alone v)
-  unfolding subscribe
-  subscribe-done v t s f z d =
-      justly done s z d (rw (sym full-said ∙ f) refl) (safe-as w (subscribe c t (marketOf w)) (subscribe-safe c t (marketOf w) (s .market)))
+  module _ (v : List ℕ) (s : Sound w) (f : (leb n i && leb (l .L) n) ≡ false)
+      (d : Moved w v (withPrints (removeCounts c (marketOf w .prints)) (marketOf w))) where
+    -- without its counts the connection finds what the new line needs
+    pub subscribe-ready : Sound v
+        × ((not (any (λ x. eqb (x .conn) c) (marketOf v .lines)) && leb (marketOf v .limits .L) (length (marketOf v .lines))) ≡ false)
+    subscribe-ready = (
+      moved-sound s d (uncounted-sound c (marketOf w) (s .market)),
+      subst (λ (m : Market). (not (any (λ x. eqb (x .conn) c) (m .lines)) && leb (m .limits .L) (length (m .lines))) ≡ false) (sym (d .market))
+          (sym full-said ∙ f),
+    )
+
+    pub subscribe-done : (x : List ℕ) (t : ℕ) → length x ≡ length w → Moved v x (withLines (subscribed c t (marketOf v .lines)) (marketOf v))
+        → Answers (subscribe c t (marketOf w)) (alone w) (word done 0 0) (alone x)
+    unfolding subscribe
+    subscribe-done x t z e =
+        justly done s z (subst (λ (m : Market). Moved w x (withLines (subscribed c t (m .lines)) m)) (d .market) (moved-on d e))
+        (rw (sym full-said ∙ f) refl)
+        (safe-as w (subscribe c t (marketOf w)) (subscribe-safe c t (marketOf w) (s .market)))
 
 -- ---- reset
 

@@ -4,7 +4,7 @@ use mathlib.Core.List.{List, []}
 use Prim.Native.Nat.{ℕ, _*_, _≤_, _<_}
 use lib.ListN.{length}
 use Rattle.rules.specs.declared.Expired.{Expired}
-use Rattle.rules.specs.Lines.{Line, Market, lineOf, connAt}
+use Rattle.rules.specs.Lines.{Line, connAt}
 use Rattle.rules.specs.Entering.{Work}
 use Rattle.rules.specs.Calls.{Outcome, refused, did}
 use Rattle.rules.specs.Refusals.{roomNeeded}
@@ -47,10 +47,6 @@ pub record Answers (o : Outcome) (before : Lent) (answer : Said) (after : Lent) 
 pub record Roomy (w v : List ℕ) : Type 0 where
   pub sound : Sound w
   pub room : 7 * roomNeeded (limitsOf w) ≤ length v
-
--- the line of a connection
-abbrev pub lineFor : ℕ → Market → Line
-lineFor c m = (connAt (lineOf c m) m) .line
 
 -- the i-th line of such a store is l
 pub record At (w v : List ℕ) (i : ℕ) (l : Line) : Type 0 where

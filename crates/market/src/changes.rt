@@ -6,7 +6,7 @@ ghost use Rattle.rules.specs.Answers.{ofChanged};
 ghost use Rattle.store.specs.Store.{marketOf, Sound};
 ghost use Rattle.market.specs.Lent.{alone, Answers};
 
-// The connection's line becomes Waiting, empty, since t.
+// The connection's delivered counts go, and its line becomes Waiting, empty, since t.
 pub fn subscribe(s: &mut [u64], conn: u64, t: u64) -> Changed
     requires { ⌜ Sound (now s) ⌝ }
     ensures { λ r. ⌜ Answers (Rules.subscribe conn t (marketOf (now (s .entry)))) (alone (now (s .entry))) (ofChanged r) (alone (now (s .exit))) ⌝ }
@@ -18,6 +18,7 @@ pub fn subscribe(s: &mut [u64], conn: u64, t: u64) -> Changed
     if full {
         return Changed::Refused(4);
     }
+    store::tables::remove_counts(s, conn);
     line_list::subscribe(s, conn, t);
     Changed::Done
 }

@@ -9,7 +9,7 @@ use Rattle.rules.specs.declared.Step.the-variants as Step
 use Rattle.rules.specs.Quantities.{Key}
 use Rattle.rules.specs.Log.{keys}
 use Rattle.rules.specs.Lines as Rules
-use Rattle.rules.specs.Lines.{connAt, setLine}
+use Rattle.rules.specs.Lines.{connAt, setLine, lineFor}
 use Rattle.rules.specs.Calls.{Answer, just, apply, duplicate, held, ignored, diverged, failed, refuse, refused, fullLog, fullNumbers, bookEvent}
 use Rattle.rules.specs.Answers.{Said, number, word, ofStep}
 use Rattle.rules.proofs.Tests.{ff≢tt}
@@ -21,7 +21,7 @@ use Rattle.lines.proofs.HeldLaws.{refuted, event-empties}
 use Rattle.store.specs.Store.{lineCount, marketOf, Sound}
 use Rattle.store.specs.Moves.{Moved}
 use Rattle.store.specs.ConnMoves.{itemsAt}
-use Rattle.market.specs.Lent.{Lent, lent, lineFor, Answers}
+use Rattle.market.specs.Lent.{Lent, lent, Answers}
 use Rattle.market.proofs.AnswerLaws.{refuses, justly}
 use Rattle.market_snapshots.specs.Snapshots.{fullness}
 use Rattle.market_snapshots.proofs.SnapshotLaws.{line-past, stays}

@@ -5,13 +5,13 @@ use rules::EventKey;
 use rules::Item;
 use rules::Step;
 ghost use Prim.Native.Nat.{ℕ, _<_};
-ghost use Rattle.rules.specs.Lines.{lineOf};
+ghost use Rattle.rules.specs.Lines.{lineOf, lineFor};
 ghost use Rattle.rules.specs.Calls as Rules;
 ghost use Rattle.rules.specs.Calls.{apply, held};
 ghost use Rattle.rules.specs.Answers.{word, ofStep};
 ghost use Rattle.lines.specs.Line.{Steps};
 ghost use Rattle.store.specs.Store.{lineCount, marketOf, Sound};
-ghost use Rattle.market.specs.Lent.{lent, lineFor, Answers, Roomy};
+ghost use Rattle.market.specs.Lent.{lent, Answers, Roomy};
 ghost use Rattle.market_events.specs.Events.{stepAt, eventAt, Becomes, lineUpAnswers};
 
 // What the i-th line makes of a book event of this key.

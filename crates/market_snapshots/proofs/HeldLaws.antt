@@ -11,7 +11,7 @@ use Rattle.rules.specs.declared.Step.{Step}
 use Rattle.rules.specs.declared.Step.the-variants as Step
 use Rattle.rules.specs.Log.{end}
 use Rattle.rules.specs.Lines as Rules
-use Rattle.rules.specs.Lines.{Connection, Market, connAt, nobody, itemsOf, isFailed, someone, setLine}
+use Rattle.rules.specs.Lines.{Connection, Market, connAt, nobody, itemsOf, isFailed, someone, setLine, lineFor}
 use Rattle.rules.specs.Entering.{Work, begin, takeOver}
 use Rattle.rules.specs.Calls.{Outcome, did, just, apply, duplicate, held, ignored, diverged, failed, released, snapshot}
 use Rattle.rules.specs.Answers.{Said, number, word, ofStep}
@@ -28,7 +28,7 @@ use Rattle.store.specs.Moves.{Moved}
 use Rattle.store.specs.ConnMoves.{itemsAt, NotFailed, ItemRoom}
 use Rattle.moves.specs.Does.{Does, Ready}
 use Rattle.moves.proofs.DoesLaws.{goes-then, goes-is}
-use Rattle.market.specs.Lent.{Lent, lent, lineFor, Answers, Roomy}
+use Rattle.market.specs.Lent.{Lent, lent, Answers, Roomy}
 use Rattle.market.proofs.AnswerLaws.{ready-begin, goes-just, refuses, safe-as, answered, answers-from}
 use Rattle.market_snapshots.specs.Snapshots.{fullness, stepAt, snapshotAt, Fits, tried, completed}
 use Rattle.market_snapshots.proofs.SnapshotLaws.{not-full, if-full, line-here, line-sound, line-past, changed-self, stays, released-from}

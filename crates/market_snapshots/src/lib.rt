@@ -5,7 +5,7 @@ use rules::Item;
 use rules::Step;
 ghost use mathlib.Core.Path.{_≡_};
 ghost use Prim.Native.Nat.{ℕ, _≤_, _<_};
-ghost use Rattle.rules.specs.Lines.{lineOf};
+ghost use Rattle.rules.specs.Lines.{lineOf, lineFor};
 ghost use Rattle.rules.specs.Calls as Rules;
 ghost use Rattle.rules.specs.Calls.{apply, held};
 ghost use Rattle.rules.specs.Answers.{word, ofStep};
@@ -14,7 +14,7 @@ ghost use Rattle.lines.specs.Line.{Steps};
 ghost use Rattle.lines.specs.Steps.{afterSnapshot};
 ghost use Rattle.store.specs.Store.{lineCount, marketOf, Sound};
 ghost use Rattle.store.specs.ConnMoves.{itemsAt};
-ghost use Rattle.market.specs.Lent.{lent, lineFor, Answers, Roomy};
+ghost use Rattle.market.specs.Lent.{lent, Answers, Roomy};
 ghost use Rattle.market_snapshots.specs.Snapshots.{fullness, stepAt, snapshotAt, Fits, Released, completed};
 
 // What refuses an item more: 5 where log and items fill the log's room, 9 where they use all numbers, 0 if nothing does.

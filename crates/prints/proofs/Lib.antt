@@ -4,3 +4,4 @@ pub mod Staying
 pub mod Joining
 pub mod Keyed
 pub mod Soundness
+pub mod Removing

@@ -93,11 +93,14 @@ pub record KeyTurn (n t : ℕ) (w v : List ℕ) (i j : ℕ) : Type 0 where
   pub rest : (k : ℕ) → i ≤ k → rowAt v k ≡ rowAt w k
 
 pub key-start : (n t : ℕ) (w : List ℕ) → KeyTurn n t w w 0 0
-key-start n t w = record { size = refl; i-le = omega arith; kept = kept-none (stays t) (keyAt w); rest = λ k h. refl }
+key-start n t w = record { size = refl; i-le = omega arith; kept = kept-none (stays t) (keyAt w) (keyAt w); rest = λ k h. refl }
 
 module _ (n t : ℕ) (w v : List ℕ) (i j : ℕ) (s : KeyTurn n t w v i j) (h : i < n) (b : Bool) (e : b ≡ stays t (keyAt v i)) where
+  key-is : keyAt v i ≡ keyAt w i
+  key-is = ap keyRow (s .rest (0 + i) (omega arith))
+
   fresh-is : stays t (keyAt w i) ≡ b
-  fresh-is = ap (stays t) (sym (s .kept .rest i (omega arith))) ∙ sym e
+  fresh-is = ap (stays t) (sym key-is) ∙ sym e
 
   pub key-stays : (v′ : List ℕ) → b ≡ true → length v′ ≡ length v → Put v v′ j (rowAt v i) → KeyTurn n t w v′ (i + 1) (j + 1)
   key-stays v′ y l p =
@@ -106,7 +109,8 @@ module _ (n t : ℕ) (w v : List ℕ) (i j : ℕ) (s : KeyTurn n t w v i j) (h :
       record {
         size = l ∙ s .size;
         i-le = omega arith;
-        kept = kept-yes (stays t) (keyAt w) (keyAt v) i j (s .kept) (keyAt v′) (fresh-is ∙ y) (rw (zi, zj) (ap keyRow (p .here))) (λ k q. ap keyRow (p .others (0 + k) (λ m. q (omega arith))));
+        kept = kept-yes (stays t) (keyAt w) (keyAt v) i j (s .kept) (keyAt v′) (fresh-is ∙ y) (rw (zi, zj) (ap keyRow (p .here)) ∙ key-is)
+            (λ k q. ap keyRow (p .others (0 + k) (λ m. omega arith)));
         rest = λ k m. p .others k (λ q. omega (arith, s .kept .fewer)) ∙ s .rest k (omega arith);
       }
 
@@ -136,6 +140,7 @@ pub record CountTurn (c nk nc t : ℕ) (w v : List ℕ) (k i j : ℕ) : Type 0 w
   pub size : length v ≡ length w
   pub i-le : i ≤ nc
   pub kept : Kept (keyStays nk t w) (countAt c w) (countAt c v) i j
+  pub rest : (a : ℕ) → i ≤ a → rowAt v (c + a) ≡ rowAt w (c + a)
   pub others : (a : ℕ) → a < c → rowAt v a ≡ rowAt w a
   pub passed : Passed c nc w k i
 
@@ -144,7 +149,8 @@ count-start c nk nc t w =
     record {
       size = refl;
       i-le = omega arith;
-      kept = kept-none (keyStays nk t w) (countAt c w);
+      kept = kept-none (keyStays nk t w) (countAt c w) (countAt c w);
+      rest = λ a h. refl;
       others = λ a h. refl;
       passed = passed-none c nc w 0;
     }
@@ -157,9 +163,12 @@ module _ (c nk nc t : ℕ) (w v : List ℕ) (k i j : ℕ) (s : CountTurn c nk nc
   key-now : keyAt v k ≡ keyAt w k
   key-now = ap keyRow (s .others (0 + k) (omega (arith, key-left, f .0)))
 
+  count-now : countAt c v i ≡ countAt c w i
+  count-now = ap countRow (s .rest i (omega arith))
+
   owns-now : ofKey (countAt c v i .key) (keyAt v k) ≡ ofKey (countAt c w i .key) (keyAt w k)
   owns-now =
-      ap (λ (r : KeyRow). ofKey (countAt c v i .key) r) key-now ∙ ap (λ (r : CountRow). ofKey (r .key) (keyAt w k)) (s .kept .rest i (omega arith))
+      ap (λ (r : KeyRow). ofKey (countAt c v i .key) r) key-now ∙ ap (λ (r : CountRow). ofKey (r .key) (keyAt w k)) count-now
 
   pub count-passes : (a : Bool) → Says a ((i < nc) × (ofKey (countAt c v i .key) (keyAt v k) ≡ true)) → a ≡ false → CountTurn c nk nc t w v (k + 1) i j
   count-passes a o n =
@@ -167,6 +176,7 @@ module _ (c nk nc t : ℕ) (w v : List ℕ) (k i j : ℕ) (s : CountTurn c nk nc
         size = s .size;
         i-le = s .i-le;
         kept = s .kept;
+        rest = s .rest;
         others = s .others;
         passed = passed-key c nk nc w k i (s .passed) (λ l e. says-no ((i < nc) × (ofKey (countAt c v i .key) (keyAt v k) ≡ true)) o n (l, owns-now ∙ e));
       }
@@ -186,8 +196,9 @@ module _ (c nk nc t : ℕ) (w v : List ℕ) (k i j : ℕ) (s : CountTurn c nk nc
           kept =
               kept-yes (keyStays nk t w) (countAt c w) (countAt c v) i j (s .kept) (countAt c v′)
               (any-keep-at (ofKey (countAt c w i .key)) (stays t) (nk) (keyAt w) k key-left (fresh-now ∙ q) mine)
-              (ap countRow (p .here))
-              (λ a m. ap countRow (p .others (c + a) (λ n. m (omega arith))));
+              (ap countRow (p .here) ∙ count-now)
+              (λ a m. ap countRow (p .others (c + a) (λ n. omega arith)));
+          rest = λ a m. p .others (c + a) (λ n. omega (arith, s .kept .fewer)) ∙ s .rest a (omega arith);
           others = λ a m. p .others a (λ n. omega arith) ∙ s .others a m;
           passed = passed-pair c nk nc w k i z key-left mine;
         }
@@ -198,6 +209,7 @@ module _ (c nk nc t : ℕ) (w v : List ℕ) (k i j : ℕ) (s : CountTurn c nk nc
           size = s .size;
           i-le = omega arith;
           kept = kept-no (keyStays nk t w) (countAt c w) (countAt c v) i j (s .kept) (any-keep-none (ofKey (countAt c w i .key)) (stays t) (nk) (keyAt w) none);
+          rest = λ a m. s .rest a (omega arith);
           others = s .others;
           passed = passed-pair c nk nc w k i z key-left mine;
         }

@@ -10,7 +10,7 @@ ghost use Prim.Native.Nat.{suc, _+_, _*_, _≤_, _<_};
 ghost use lib.ListN.{length};
 ghost use lib.Dec.{leb};
 ghost use Rattle.rules.specs.Quantities.{maxCount};
-ghost use Rattle.rules.specs.Prints.{appliedIn, deliveredIn, counted, applyPrint};
+ghost use Rattle.rules.specs.Prints.{appliedIn, deliveredIn, counted, applyPrint, removeCounts};
 ghost use Rattle.rules.specs.Calls.{noRow};
 ghost use Rattle.rules.specs.Sound.{TablesSound};
 ghost use Rattle.rules.specs.declared.Limits.{Limits};
@@ -210,4 +210,16 @@ pub fn apply(area: &mut [u64], c: usize, used: Used, key: EventKey, n: u64, plac
         }
         Place::Gap(_) => {}
     }
+}
+
+// The connection's delivered counts go, of every key; applied counts stay.
+pub fn remove_counts(area: &mut [u64], c: usize, used: Used, conn: u64) -> Used
+    requires { ⌜ Fits c (now area) used ⌝ }
+    requires { ⌜ TablesSound (printsOf c (now area) used) ⌝ }
+    ensures { λ r. ⌜ printsOf c (now (area .exit)) r ≡ removeCounts conn (printsOf c (now (area .entry)) used) ⌝ }
+    ensures { λ r. ⌜ Fits c (now (area .exit)) r ⌝ }
+{
+    let keys = used.keys;
+    let counts = rows::removal::remove(area, c, used.counts, conn);
+    Used { keys, counts }
 }

@@ -12,3 +12,4 @@ pub mod FromBehind
 pub mod Settling
 pub mod Ordered
 pub mod Adding
+pub mod Removing

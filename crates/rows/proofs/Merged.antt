@@ -7,9 +7,9 @@ use mathlib.Core.Bool.{Bool, true, false, _||_, cond}
 use Prim.Native.Nat.{_+_}
 use native.Mathlib.Omega.{arith}
 use lib.ListN.{length}
-use Rattle.rules.specs.Lists.{any, first, amend, insert, Each, Rising}
+use Rattle.rules.specs.Lists.{any, first, amend, insert, keep, Each, Rising}
 use Rattle.rules.proofs.Tests.{ff≢tt, untrue, either, by-cond, or-false-left, or-false-right, or-moved}
-use Rattle.rules.proofs.ListLaws.{each-imp}
+use Rattle.rules.proofs.ListLaws.{each-imp, each-keep}
 use Rattle.rows.specs.Tables.{merged}
 use Rattle.rows.proofs.Order.{Order, less-differs, more-differs, less-not-more}
 
@@ -304,3 +304,39 @@ module _ {A I : Type 0} (pos : A → I) (B S : I → I → Bool) (o : Order B S)
       apart-more : (x : A) (xs ys : List A) → Each (Less x) ys → Apart xs ys → Apart (x ∷ xs) ys
       apart-more x xs [] l z = tt
       apart-more x xs (y ∷ ys) l z = (rw (less-differs B S o (pos x) (pos y) (l .0)) (z .0), apart-more x xs ys (l .1) (z .1))
+
+  -- ---- the rows that pass a test
+  all-before : (zs : List A) (y : A) (ws : List A) → Each (Less y) zs → merged lt zs (y ∷ ws) ≡ y ∷ merged lt zs ws
+  all-before [] y ws h = refl
+  all-before (z ∷ zs) y ws h = merged-right lt z zs y ws (h .0)
+
+  all-behind : (x : A) (zs ws : List A) → Each (λ w. lt w x ≡ false) ws → merged lt (x ∷ zs) ws ≡ x ∷ merged lt zs ws
+  all-behind x zs [] h = refl
+  all-behind x zs (w ∷ ws) h = merged-left lt x zs w ws (h .0)
+
+  pub keep-merged : (t : A → Bool) (xs ys : List A) → Rising Less xs → Rising Less ys → keep t (merged lt xs ys) ≡ merged lt (keep t xs) (keep t ys)
+  unfolding Rising
+  keep-merged t =
+      merged-by lt (λ xs ys m. Rising Less xs → Rising Less ys → keep t m ≡ merged lt (keep t xs) (keep t ys))
+      (λ ys p q. refl)
+      (λ x xs r p q. at-last x xs (t x) (r (p .1) tt))
+      (λ x xs y ys e r p q. at-right x xs y ys (e, each-imp (Less x) (Less y) (λ z l. trans y x z e l) xs (p .0)) (t y) (r p (q .1)))
+      (λ x xs y ys e r p q.
+      at-left x xs y ys (e, each-imp (Less y) (λ w. lt w x ≡ false) (λ w l. untrue (lt w x) (λ h. ff≢tt e (trans y w x l h))) ys (q .0)) (t x) (r (p .1) q))
+    where
+      at-last : (x : A) (xs : List A) (b : Bool) → keep t (merged lt xs []) ≡ merged lt (keep t xs) []
+          → cond b (x ∷ keep t (merged lt xs [])) (keep t (merged lt xs [])) ≡ merged lt (cond b (x ∷ keep t xs) (keep t xs)) []
+      at-last x xs true r = cons x r
+      at-last x xs false r = r
+
+      at-right : (x : A) (xs : List A) (y : A) (ys : List A) → Each (Less y) (x ∷ xs) → (b : Bool)
+          → keep t (merged lt (x ∷ xs) ys) ≡ merged lt (keep t (x ∷ xs)) (keep t ys)
+          → cond b (y ∷ keep t (merged lt (x ∷ xs) ys)) (keep t (merged lt (x ∷ xs) ys)) ≡ merged lt (keep t (x ∷ xs)) (cond b (y ∷ keep t ys) (keep t ys))
+      at-right x xs y ys h true r = cons y r ∙ sym (all-before (keep t (x ∷ xs)) y (keep t ys) (each-keep (Less y) t (x ∷ xs) h))
+      at-right x xs y ys h false r = r
+
+      at-left : (x : A) (xs : List A) (y : A) (ys : List A) → Each (λ w. lt w x ≡ false) (y ∷ ys) → (b : Bool)
+          → keep t (merged lt xs (y ∷ ys)) ≡ merged lt (keep t xs) (keep t (y ∷ ys))
+          → cond b (x ∷ keep t (merged lt xs (y ∷ ys))) (keep t (merged lt xs (y ∷ ys))) ≡ merged lt (cond b (x ∷ keep t xs) (keep t xs)) (keep t (y ∷ ys))
+      at-left x xs y ys h true r = cons x r ∙ sym (all-behind x (keep t xs) (keep t (y ∷ ys)) (each-keep (λ w. lt w x ≡ false) t (y ∷ ys) h))
+      at-left x xs y ys h false r = r

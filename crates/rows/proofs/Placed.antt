@@ -4,7 +4,7 @@ use mathlib.Core.List.{List, [], _∷_, _++_}
 use mathlib.Core.Bool.{Bool, true, false, _&&_, _||_, cond}
 use Prim.Native.Nat.{ℕ}
 use Rattle.rules.specs.Quantities.{Key, key}
-use Rattle.rules.specs.Lists.{any, insert, Each, Rising}
+use Rattle.rules.specs.Lists.{any, insert, keep, Each, Rising}
 use Rattle.rules.proofs.Order.{samePair, samePair-true, pairBefore}
 use Rattle.rows.specs.Rows.{Row, lower, level, below, alike}
 use Rattle.rows.specs.Tables.{before, Before, merged}
@@ -115,3 +115,11 @@ module _ (three : Bool) where
       (λ lt is. (xs ys : List Row) → Rising (λ r s. lt r s ≡ true) (merged lt xs ys)
       → Rising (λ r s. lt r s ≡ true) xs × (Rising (λ r s. lt r s ≡ true) ys × Each (λ y. any (is y) xs ≡ false) ys))
       (Merged.merged-rising (pos three) pairBefore samePair pairOrder)
+
+  pub keep-merged : (t : Row → Bool) (xs ys : List Row) → Rising (Before three) xs → Rising (Before three) ys
+      → keep t (merged (before three) xs ys) ≡ merged (before three) (keep t xs) (keep t ys)
+  keep-merged =
+      of-rows
+      (λ lt is. (t : Row → Bool) (xs ys : List Row) → Rising (λ r s. lt r s ≡ true) xs → Rising (λ r s. lt r s ≡ true) ys
+      → keep t (merged lt xs ys) ≡ merged lt (keep t xs) (keep t ys))
+      (Merged.keep-merged (pos three) pairBefore samePair pairOrder)

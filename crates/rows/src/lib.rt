@@ -1,4 +1,5 @@
 // Rows of four words in a lent slice, in rising order by two words or by three: n rows of the slice from row b on.
+pub mod removal;
 pub mod tables;
 
 ghost use mathlib.Core.Path.{_≡_};
@@ -202,7 +203,7 @@ pub fn lower(t: &[u64], b: usize, n: usize, three: bool, x: u64, y: u64, z: u64)
 }
 
 // Where the row of the words given stands among n rising rows, or would stand.
-pub fn locate(t: &[u64], b: usize, n: usize, three: bool, x: u64, y: u64, z: u64) -> Place
+fn locate(t: &[u64], b: usize, n: usize, three: bool, x: u64, y: u64, z: u64) -> Place
     requires { ⌜ 4 * (b + n) ≤ length (now t) ⌝ }
     ensures { λ r. ⌜ Located three (rowIn b (now (t .entry))) n x y z r ⌝ }
 {

@@ -92,40 +92,15 @@ fn settle_all(t: &mut [u64], new: &[u64], b: usize, u: Runs, three: bool)
     }
 }
 
-// Merges at most 64 new rows into those in order.
-fn join_64(t: &mut [u64], b: usize, u: Runs, three: bool)
-    requires { ⌜ (Table three b u (now t)) × (u .new ≤ 64) ⌝ }
+// Merges the new rows into those in order, by way of a copy of them at the front of `new`.
+fn join_by(t: &mut [u64], new: &mut [u64], b: usize, u: Runs, three: bool)
+    requires { ⌜ (Table three b u (now t)) × (4 * u .new ≤ length (now new)) ⌝ }
     ensures { λ _. ⌜ Joined three b u (now (t .entry)) (now (t .exit)) ⌝ }
 {
-    let mut new = [0; 256];
     let a = 4 * (b + u.old);
     let e = a + 4 * u.new;
-    copy(&t[a..e], &mut new);
-    settle_all(t, &new, b, u, three);
-}
-
-// Merges at most 128 new rows into those in order.
-fn join_128(t: &mut [u64], b: usize, u: Runs, three: bool)
-    requires { ⌜ (Table three b u (now t)) × (u .new ≤ 128) ⌝ }
-    ensures { λ _. ⌜ Joined three b u (now (t .entry)) (now (t .exit)) ⌝ }
-{
-    let mut new = [0; 512];
-    let a = 4 * (b + u.old);
-    let e = a + 4 * u.new;
-    copy(&t[a..e], &mut new);
-    settle_all(t, &new, b, u, three);
-}
-
-// Merges at most 512 new rows into those in order.
-fn join_512(t: &mut [u64], b: usize, u: Runs, three: bool)
-    requires { ⌜ (Table three b u (now t)) × (u .new ≤ 512) ⌝ }
-    ensures { λ _. ⌜ Joined three b u (now (t .entry)) (now (t .exit)) ⌝ }
-{
-    let mut new = [0; 2048];
-    let a = 4 * (b + u.old);
-    let e = a + 4 * u.new;
-    copy(&t[a..e], &mut new);
-    settle_all(t, &new, b, u, three);
+    copy(&t[a..e], new);
+    settle_all(t, new, b, u, three);
 }
 
 // Merges the new rows into those in order. An array for few of them is sooner made than one for many.
@@ -134,12 +109,15 @@ pub fn join(t: &mut [u64], b: usize, u: Runs, three: bool)
     ensures { λ _. ⌜ Joined three b u (now (t .entry)) (now (t .exit)) ⌝ }
 {
     if u.new <= 64 {
-        return join_64(t, b, u, three);
+        let mut new = [0; 256];
+        return join_by(t, &mut new, b, u, three);
     }
     if u.new <= 128 {
-        return join_128(t, b, u, three);
+        let mut new = [0; 512];
+        return join_by(t, &mut new, b, u, three);
     }
-    join_512(t, b, u, three)
+    let mut new = [0; 2048];
+    join_by(t, &mut new, b, u, three)
 }
 
 // A row that is missing is put in: among the new ones, where it has its gap, or, where these are many, alone behind all others, merged.

@@ -13,7 +13,7 @@ use Rattle.rules.specs.declared.Item.{Item}
 use Rattle.rules.specs.Lists.{Each, Rising, any, first, keep, nil}
 use Rattle.rules.specs.Quantities.{Key, areaItems, maxCount, noKey, printOut, same, snapshotOut}
 use Rattle.rules.specs.Log.{clear, end, keys, stamp}
-use Rattle.rules.specs.Prints.{appliedIn, applyPrint, counted, deliveredIn}
+use Rattle.rules.specs.Prints.{appliedIn, applyPrint, counted, deliveredIn, removeCounts}
 use Rattle.rules.specs.Lines.{Connection, Failed, InLine, Line, Market, Pending, Waiting, connAt, eventKeys, events, isFailed, isInLine, itemsOf, lineOf, nobody, setConn, setLine, snapshotOf, someone, subscribed, withLines, withLog, withPrints}
 use Rattle.rules.specs.Entering.{Work, begin, onMarket, pushOut, putOut, sweep, takeOver, tryLineUp}
 use Rattle.rules.specs.Calls.{Answer, Outcome, apply, below, better, bookEvent, claim, did, done, dropConn, dueEnds, dueFor, duplicate, fullLog, fullNumbers, held, holdPrint, just, noRow, pendingAnew, print, printCounted, promote, refuse, refused, released, reset, snapshot, source, subscribe}
@@ -136,8 +136,8 @@ module _ (s : ℕ) (B : List (ℕ × Key)) (E : ℕ → ℕ) where
   pub subscribe-fine : (T : ℕ → List Key) (c now : ℕ) (m : Market) → GoodM s B T E m → Fine (λ a. T) (subscribe c now m)
   unfolding subscribe
   subscribe-fine T c now m g = refuse-fine (λ a. T) (not (any (λ s. eqb (s .conn) c) (m .lines)) && leb (m .limits .L) (length (m .lines))) 4
-      (just done (withLines (subscribed c now (m .lines)) m))
-      (begin-good T (withLines (subscribed c now (m .lines)) m)
+      (just done (withLines (subscribed c now (m .lines)) (withPrints (removeCounts c (m .prints)) m)))
+      (begin-good T (withLines (subscribed c now (m .lines)) (withPrints (removeCounts c (m .prints)) m))
       (lines-good (subscribed c now (m .lines)) (subscribed-sorted c now (m .lines) (g .rises))
       (subscribed-each (ConnOk s (keysOf B) T E) c now (m .lines) (none-held (T c)) (g .conns)) g))
 

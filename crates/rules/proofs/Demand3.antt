@@ -13,10 +13,10 @@ use Rattle.rules.specs.declared.Kind.the-variants as Kind
 use Rattle.rules.specs.Lists.{Each, In, Rising, any, index}
 use Rattle.rules.specs.Quantities.{Key, same}
 use Rattle.rules.specs.Log.{end, keys}
-use Rattle.rules.specs.Lines.{Connection, Failed, InLine, Line, Market, Pending, Waiting, isPending, nobody}
+use Rattle.rules.specs.Lines.{Connection, Failed, InLine, Line, Market, Pending, Waiting, isPending, nobody, lineFor}
 use Rattle.rules.specs.Refusals.{BookEvent, Call, Drop, Print, Promote, Reset, Snapshot, Subscribe, Tick, roomNeeded, short}
 use Rattle.rules.specs.Answers.{Said}
-use Rattle.rules.specs.Demand.{Demand, Demand3, Ends, Goes, GoesOn, History, Sent, SentAs, Unrefused, advanced, after, answers, bookKeys, books, deliveredOf, eventsOf, farthest, highest, isPrinted, lineFor, nextOf, numbered, own, ownBooks, ownPrints, printsBy, records, run, setUp, timeless}
+use Rattle.rules.specs.Demand.{Demand, Demand3, Ends, Goes, GoesOn, History, Sent, SentAs, Unrefused, advanced, after, answers, bookKeys, books, deliveredOf, eventsOf, farthest, highest, isPrinted, nextOf, numbered, own, ownBooks, ownPrints, printsBy, records, run, setUp, timeless}
 use Rattle.rules.proofs.Tests.{eqb-other, eqb-same, ff≢tt, or-false-left, or-false-right}
 use Rattle.rules.proofs.ListLaws.{each-imp}
 use Rattle.rules.proofs.Order.{same-itself, same-true, samePair, samePair-itself, samePair-true}

@@ -12,11 +12,11 @@ use Rattle.rules.specs.declared.Applied.{Applied}
 use Rattle.rules.specs.Lists.{Each, largest}
 use Rattle.rules.specs.Quantities.{Key, bookOut, maxNumber, noKey, same}
 use Rattle.rules.specs.Log.{Log, end, keys, push}
-use Rattle.rules.specs.Lines.{Connection, Failed, InLine, Line, Market, Pending, Waiting, connAt, isFailed, isInLine, isPending, itemCount, itemsOf, lineOf, nobody, setLine}
+use Rattle.rules.specs.Lines.{Connection, Failed, InLine, Line, Market, Pending, Waiting, connAt, isFailed, isInLine, isPending, itemCount, itemsOf, lineOf, nobody, setLine, lineFor}
 use Rattle.rules.specs.Entering.{Work, begin, onMarket, pushOut, sweep}
 use Rattle.rules.specs.Calls.{apply, bookEvent, did, fullLog, fullNumbers, refuse}
 use Rattle.rules.specs.Refusals.{BookEvent, Call, short, step}
-use Rattle.rules.specs.Demand.{Sent, advanced, appliedOf, books, copies, deliveredOf, eventsOf, farthest, forward, highest, lineFor, nextOf, numbered, printsBy, reach}
+use Rattle.rules.specs.Demand.{Sent, advanced, appliedOf, books, copies, deliveredOf, eventsOf, farthest, forward, highest, nextOf, numbered, printsBy, reach}
 use Rattle.rules.proofs.Tests.{by-cond, eqb-other, eqb-same, ff≢tt, leb-false, lt-leb, ltb-false, ltb-true}
 use Rattle.rules.proofs.ListLaws.{any-set, append-nil, each-at, each-imp, map-append}
 use Rattle.rules.proofs.Order.{same-itself}

@@ -12,10 +12,10 @@ use Rattle.rules.specs.Lists.{any, largest}
 use Rattle.rules.specs.Quantities.{Key, maxCount, printOut, same}
 use Rattle.rules.specs.Log.{keys}
 use Rattle.rules.specs.Prints.{KeyRow, appliedIn, counted, deliver, deliveredIn, ofKey, ofPair, setApplied, touch}
-use Rattle.rules.specs.Lines.{Connection, Failed, InLine, Line, Market, Pending, Waiting, connAt, isFailed, isInLine, lineOf, nobody, withPrints}
+use Rattle.rules.specs.Lines.{Connection, Failed, InLine, Line, Market, Pending, Waiting, connAt, isFailed, isInLine, lineOf, nobody, withPrints, lineFor}
 use Rattle.rules.specs.Calls.{Outcome, ignored, just, print, printCounted, refuse}
 use Rattle.rules.specs.Refusals.{Call, Print, short, step}
-use Rattle.rules.specs.Demand.{appliedOf, books, copies, deliveredOf, eventsOf, farthest, highest, isPrinted, lineFor, numbered, printsBy}
+use Rattle.rules.specs.Demand.{appliedOf, books, copies, deliveredOf, eventsOf, farthest, highest, isPrinted, numbered, printsBy}
 use Rattle.rules.proofs.Tests.{by-cond, eqb-other, eqb-same, ff≢tt, leb-false, leb-true, lt-leb, lt-ltb, ltb-false, or-false-left, or-false-right, or-moved}
 use Rattle.rules.proofs.ListLaws.{any-at, append-nil}
 use Rattle.rules.proofs.Order.{same-itself, same-true, samePair, samePair-itself, samePair-true}

@@ -12,11 +12,11 @@ use Rattle.rules.specs.declared.Limits.{Limits}
 use Rattle.rules.specs.Lists.{Rising, count, index}
 use Rattle.rules.specs.Quantities.{Key}
 use Rattle.rules.specs.Log.{keys}
-use Rattle.rules.specs.Lines.{Failed, InLine, Line, Market, Pending, Waiting, connAt, isFailed, lineOf, nobody}
+use Rattle.rules.specs.Lines.{Failed, InLine, Line, Market, Pending, Waiting, connAt, isFailed, lineOf, nobody, lineFor}
 use Rattle.rules.specs.Calls.{Outcome, bookEvent, did, dropConn, print, promote, refuse, refused, snapshot}
 use Rattle.rules.specs.Tick.{tick}
 use Rattle.rules.specs.Refusals.{BookEvent, Call, Drop, Print, Promote, Reset, Snapshot, Subscribe, Tick, badAnswers, short, step}
-use Rattle.rules.specs.Demand.{Agreed, History, bookKeys, books, follow, lineFor, nowEntered, nowTaken, run, setUp}
+use Rattle.rules.specs.Demand.{Agreed, History, bookKeys, books, follow, nowEntered, nowTaken, run, setUp}
 use Rattle.rules.proofs.Tests.{eqb-true}
 use Rattle.rules.proofs.ListLaws.{each-at}
 use Rattle.rules.proofs.Invariant.{Agree, ConnOk, Good, GoodM, LineOk, books-append, numbersFrom, present}

@@ -1,4 +1,4 @@
--- The print tables stay sound: after an apply, a print that is not refused, an expiry.
+-- The print tables stay sound: after an apply, a print that is not refused, a removal of counts, an expiry.
 use mathlib.Core.Path.{_≡_, refl, _∙_, ap}
 use mathlib.Core.List.{List, [], _∷_}
 use mathlib.Core.Option.{Option}
@@ -10,7 +10,7 @@ use lib.ListN.{length}
 use Rattle.rules.specs.declared.Limits.{Limits}
 use Rattle.rules.specs.Lists.{Each, any, keep, maybe}
 use Rattle.rules.specs.Quantities.{Key, age, maxCount, otherKeep, same}
-use Rattle.rules.specs.Prints.{CountRow, KeyRow, Prints, applyPrint, counted, deliver, deliveredIn, expirePrints, ofKey, ofPair, setApplied, touch}
+use Rattle.rules.specs.Prints.{CountRow, KeyRow, Prints, applyPrint, counted, deliver, deliveredIn, expirePrints, ofKey, ofOther, ofPair, removeCounts, setApplied, touch}
 use Rattle.rules.specs.Place.{fits}
 use Rattle.rules.specs.Calls.{noRow}
 use Rattle.rules.specs.Sound.{CountLess, KeyLess, PrintsSound, TablesSound}
@@ -91,6 +91,23 @@ counted-sound l p k c now t₇ t₈ s = record {
     fits : (b : Bool) (u v lim : ℕ) → u ≡ cond b v (suc v) → v ≤ lim → (not b && leb lim v) ≡ false → u ≤ lim
     fits true u v lim q h z = omega arith
     fits false u v lim q h z = let y : v < lim = leb-false z in omega arith
+
+-- ---- removal
+
+pub removeCounts-sound : (l : Limits) (c : ℕ) (p : Prints) → PrintsSound l p → PrintsSound l (removeCounts c p)
+removeCounts-sound l c p s =
+    let t = s .tables in
+    record {
+      keysFit = s .keysFit;
+      pairsFit = (let z = length-keep (ofOther c) (p .countRows) in let y = s .pairsFit in omega arith);
+      tables = record {
+        keysRise = t .keysRise;
+        pairsRise = rising-kept CountLess (ofOther c) (p .countRows) (t .pairsRise);
+        applied32 = t .applied32;
+        delivered32 = each-keep SmallCount (ofOther c) (p .countRows) (t .delivered32);
+        keyed = each-keep (Keyed (p .keyRows)) (ofOther c) (p .countRows) (t .keyed);
+      };
+    }
 
 -- ---- expiry
 

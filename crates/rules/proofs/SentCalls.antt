@@ -12,9 +12,9 @@ use Rattle.rules.specs.declared.Kind.{Kind}
 use Rattle.rules.specs.declared.Kind.the-variants as Kind
 use Rattle.rules.specs.Lists.{In, index}
 use Rattle.rules.specs.Quantities.{Key, bookOut, printOut}
-use Rattle.rules.specs.Lines.{Connection, Failed, InLine, Line, Market, Pending, Waiting, isInLine, nobody}
+use Rattle.rules.specs.Lines.{Connection, Failed, InLine, Line, Market, Pending, Waiting, isInLine, nobody, lineFor}
 use Rattle.rules.specs.Refusals.{BookEvent, Call, Drop, Print, Promote, Reset, Snapshot, Subscribe, Tick}
-use Rattle.rules.specs.Demand.{Goes, Sent, SentAs, advanced, eventsOf, forward, lineFor, nextOf, ownBooks, ownPrints}
+use Rattle.rules.specs.Demand.{Goes, Sent, SentAs, advanced, eventsOf, forward, nextOf, ownBooks, ownPrints}
 use Rattle.rules.proofs.Tests.{by-cond, eqb-same, eqb-true, ff≢tt}
 use Rattle.rules.proofs.Still.{lineIn}
 

@@ -12,7 +12,7 @@ use Rattle.rules.specs.declared.Limits.{Limits}
 use Rattle.rules.specs.Lists.{Each, Rising, any, keep, nil}
 use Rattle.rules.specs.Quantities.{Key, areaItems, maxCount, maxNumber, noKey, same, snapshotOut}
 use Rattle.rules.specs.Log.{clear, end, keys, old, stamp}
-use Rattle.rules.specs.Prints.{appliedIn, counted, deliveredIn}
+use Rattle.rules.specs.Prints.{appliedIn, counted, deliveredIn, removeCounts}
 use Rattle.rules.specs.Lines.{Connection, Failed, InLine, Line, Market, Pending, Waiting, connAt, isFailed, isInLine, itemCount, itemsOf, lineOf, nobody, setConn, setLine, snapshotOf, someone, subscribed, withLines, withLog, withPrints}
 use Rattle.rules.specs.Place.{fits}
 use Rattle.rules.specs.Entering.{Work, begin, onMarket, pushOut, putOut, sweep, takeOver, tryLineUp}
@@ -22,7 +22,7 @@ use Rattle.rules.specs.Refusals.{roomNeeded}
 use Rattle.rules.specs.Sound.{holdings, ConnSound, Known, LineSound, Lower, Sound}
 use Rattle.rules.proofs.Tests.{by-cond, by-maybe, eqb-other, ff≢tt, leb-false, ltb-true, or-false-left, or-false-right}
 use Rattle.rules.proofs.ListLaws.{each-append, each-at, each-imp, each-keep, each-map, length-keep, rising-kept}
-use Rattle.rules.proofs.PrintsSound.{applyPrint-sound, counted-sound}
+use Rattle.rules.proofs.PrintsSound.{applyPrint-sound, counted-sound, removeCounts-sound}
 use Rattle.rules.proofs.Invariant.{Sorted, sorted-map}
 use Rattle.rules.proofs.Sweep.{here}
 use Rattle.rules.proofs.CallsKept.{events-snap, source-law, subscribed-each, subscribed-sorted}
@@ -127,11 +127,20 @@ subscribed-items c now (x ∷ xs) = let h = subscribed-items c now xs in
     by-cond (λ (l : List Connection). itemCount l ≤ itemCount (x ∷ xs)) (ltb c (x .conn)) (λ e. omega arith)
     (λ e. by-cond (λ (l : List Connection). itemCount l ≤ itemCount (x ∷ xs)) (eqb (x .conn) c) (λ t. omega arith) (λ t. omega arith))
 
+-- without the counts of c
+pub uncounted-sound : (c : ℕ) (m : Market) → Sound m → Sound (withPrints (removeCounts c (m .prints)) m)
+uncounted-sound c m s = record { limitsFit = s .limitsFit; lines = s .lines; prints = removeCounts-sound (m .limits) c (m .prints) (s .prints) }
+
 pub subscribe-safe : (c now : ℕ) (m : Market) → Sound m → Safe (m .limits) (subscribe c now m)
 unfolding subscribe
-subscribe-safe c now m s = refuse-safe (m .limits) (not (any (λ x. eqb (x .conn) c) (m .lines)) && leb (m .limits .L) (length (m .lines))) 4 (just done (withLines (subscribed c now (m .lines)) m))
-    (λ q. just-safe (withLines (subscribed c now (m .lines)) m) done
-    (less-sound m (subscribed c now (m .lines)) s (fits (any (λ x. eqb (x .conn) c) (m .lines)) q (subscribed-length c now (m .lines) (s .lines .rises))) (subscribed-sorted c now (m .lines) (s .lines .rises))
+subscribe-safe c now m s =
+    let m′ = withPrints (removeCounts c (m .prints)) m in
+    refuse-safe (m .limits) (not (any (λ x. eqb (x .conn) c) (m .lines)) && leb (m .limits .L) (length (m .lines))) 4
+    (just done (withLines (subscribed c now (m .lines)) m′))
+    (λ q. just-safe (withLines (subscribed c now (m .lines)) m′) done
+    (less-sound m′ (subscribed c now (m .lines)) (uncounted-sound c m s)
+    (fits (any (λ x. eqb (x .conn) c) (m .lines)) q (subscribed-length c now (m .lines) (s .lines .rises)))
+    (subscribed-sorted c now (m .lines) (s .lines .rises))
     (subscribed-each (ConnSound (m .limits) (end (m .log))) c now (m .lines) ((omega arith, tt), omega arith) (s .lines .conns)) (subscribed-items c now (m .lines))))
   where
     fits : (b : Bool) → (not b && leb (m .limits .L) (length (m .lines))) ≡ false → length (subscribed c now (m .lines)) ≤ cond b (length (m .lines)) (suc (length (m .lines))) → length (subscribed c now (m .lines)) ≤ m .limits .L

@@ -12,7 +12,7 @@ use Rattle.rules.specs.declared.Expired.{Expired}
 use Rattle.rules.specs.Lists.{keep, any, nil, maybe}
 use Rattle.rules.specs.Quantities.{Key, noKey, same, stamped, maxCount, maxNumber, areaItems, snapshotOut, printOut}
 use Rattle.rules.specs.Log.{keys, end, stamp, clear}
-use Rattle.rules.specs.Prints.{Prints, ofKey, ofPair, appliedIn, deliveredIn, counted, applyPrint}
+use Rattle.rules.specs.Prints.{Prints, ofKey, ofPair, appliedIn, deliveredIn, counted, applyPrint, removeCounts}
 use Rattle.rules.specs.Lines.{Line, Waiting, Pending, InLine, Failed, Connection, Market, snapshotOf, isSnapshot, itemsOf, isInLine, isFailed, someone, itemCount, lineOf, connAt, withLog, withPrints, withLines, setConn, setLine, subscribed}
 use Rattle.rules.specs.Entering.{Work, begin, onMarket, putOut, pushOut, takeOver, tryLineUp, sweep}
 
@@ -39,11 +39,11 @@ fullLog m = leb (m .limits .G) (length (m .log .entries) + itemCount (m .lines))
 abbrev pub fullNumbers : Market → Bool
 fullNumbers m = leb maxNumber (end (m .log) + itemCount (m .lines))
 
--- ---- Subscribe
+-- ---- Subscribe: the line is new; request 1: the connection's delivered counts go
 unfoldable pub subscribe : ℕ → ℕ → Market → Outcome
 subscribe c now m =
     refuse (not (any (λ s. eqb (s .conn) c) (m .lines)) && leb (m .limits .L) (length (m .lines))) 4
-    (just done (withLines (subscribed c now (m .lines)) m))
+    (just done (withLines (subscribed c now (m .lines)) (withPrints (removeCounts c (m .prints)) m)))
 
 -- ---- Snapshot
 abbrev pub dueFor : ℕ → Bool → Bool → Bool

@@ -14,7 +14,7 @@ use Rattle.rules.specs.Lists.{keep, any, sum, largest, count, Each, In}
 use Rattle.rules.specs.Quantities.{Key, same, bookOut}
 use Rattle.rules.specs.Log.{Log, keys, end, push}
 use Rattle.rules.specs.Prints.{ofKey, ofPair, appliedIn, touchedIn, deliveredIn}
-use Rattle.rules.specs.Lines.{Line, Waiting, Pending, InLine, Failed, Connection, Market, fresh, lineOf, connAt, isPending, isInLine}
+use Rattle.rules.specs.Lines.{Line, Waiting, Pending, InLine, Failed, Connection, Market, fresh, isPending, isInLine, lineFor}
 use Rattle.rules.specs.Calls.{Answer, done, apply, duplicate, held, ignored, diverged, failed, kept, gone, rebuild, Outcome, refused, did}
 use Rattle.rules.specs.Refusals.{Call, Subscribe, Snapshot, BookEvent, Print, Drop, Promote, Reset, Tick, step}
 use Rattle.rules.specs.Answers.{Said, number, word, saidBy}
@@ -83,9 +83,6 @@ run h (x ∷ xs) = run (follow x h (step x (h .market))) xs
 
 abbrev pub setUp : Limits → ℕ → History
 setUp l start = record { market = fresh l start; out = []; taken = λ c. []; entry = λ c. 0 }
-
-abbrev pub lineFor : ℕ → Market → Line
-lineFor c m = (connAt (lineOf c m) m) .line
 
 -- a connection's latest taken events are what was put out from its entry number e to just below its next number n
 pub record Agreed (start : ℕ) (out taken : List Key) (e n : ℕ) : Type 0 where
@@ -167,6 +164,7 @@ printsBy k c (x ∷ xs) = isPrint k c x (printsBy k c xs)
 abbrev pub appliedOf : Key → Market → ℕ
 appliedOf k m = appliedIn k (m .prints .keyRows)
 
+-- what the table has: request 1, what it delivered since its last subscription
 abbrev pub deliveredOf : Key → ℕ → Market → ℕ
 deliveredOf k c m = deliveredIn k c (m .prints .countRows)
 
@@ -231,7 +229,7 @@ advanced f s = record { conn = s .conn; line = forward (f (s .conn)) (s .line); 
 unfoldable pub farthest : Market → (ℕ → ℕ) → ℕ
 farthest m f = largest (end (m .log)) (map (λ s. reach (f (s .conn)) (s .line)) (m .lines))
 
--- the larger of what applied was and the largest count that a connection delivering the key reached
+-- the larger of what applied was and the largest count that a connection delivering the key reached; request 1: since its last subscription
 unfoldable pub highest : Key → Market → (ℕ → ℕ) → ℕ
 highest k m f =
     largest (appliedOf k m) (map (λ s. cond (ltb 0 (f (s .conn))) (deliveredOf k (s .conn) m + f (s .conn)) 0) (m .lines))

@@ -125,7 +125,7 @@ differences =
     -- Counts and subscription
     ∷ says (take 2 resubscribed) (answer held [] [])
     ∷ says (take 4 resubscribed) (answer apply (putSnap 1 ∷ []) [])
-    ∷ says resubscribed (answer apply (putPrint 1 1 2 ∷ []) [])
+    ∷ says resubscribed (answer apply (putPrint 1 1 1 ∷ []) [])
     -- The k-th copy
     ∷ says (take 4 secondCopy) (answer held [] [])
     ∷ says secondCopy (answer apply (putPrint 1 1 1 ∷ []) [])

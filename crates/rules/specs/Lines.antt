@@ -111,6 +111,9 @@ lineOf c m = index (λ s. eqb (s .conn) c) (m .lines)
 abbrev pub connAt : ℕ → Market → Connection
 connAt i m = getD (m .lines) i nobody
 
+abbrev pub lineFor : ℕ → Market → Line
+lineFor c m = (connAt (lineOf c m) m) .line
+
 abbrev pub withLog : Log → Market → Market
 withLog l m = record { limits = m .limits; log = l; prints = m .prints; lines = m .lines }
 
@@ -127,7 +130,8 @@ setConn i line hs m = withLines (set (m .lines) i (record { conn = (connAt i m) 
 abbrev pub setLine : ℕ → Line → Market → Market
 setLine i line m = setConn i line ((connAt i m) .held) m
 
--- Subscribe: held prints go, the line becomes Waiting, empty, since now; nothing else, even if it was in line
+-- Subscribe: held prints go, the line becomes Waiting, empty, since now; the connection's delivered counts go (Calls, request 1);
+-- nothing else, even if it was in line
 abbrev pub waiting : ℕ → ℕ → Connection
 waiting c now = record { conn = c; line = Waiting [] now; held = [] }
 

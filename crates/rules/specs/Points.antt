@@ -13,17 +13,19 @@ use Rattle.rules.specs.declared.Expired.{Expired}
 use Rattle.rules.specs.declared.Expired.the-variants as Expired
 use Rattle.rules.specs.Lists.{Each}
 use Rattle.rules.specs.Quantities.{key, snapshotOut, bookOut, printOut}
+use Rattle.rules.specs.Prints.{CountRow}
 use Rattle.rules.specs.Lines.{Line, Pending, InLine, Market, fresh, lineOf, connAt}
 use Rattle.rules.specs.Calls.{Answer, done, apply, duplicate, held, diverged, failed, gone, rebuild, Outcome, refused, did}
 use Rattle.rules.specs.Refusals.{Call, Subscribe, Snapshot, BookEvent, Print, Drop, Tick, step, servable}
 use Rattle.rules.specs.Demand.{marketAfter, after}
 
--- what a point shows: a call's answer with its records and reports; a line; the log's first number; what servable says
+-- what a point shows: a call's answer with its records and reports; a line; the log's first number; the delivered counts; what servable says
 pub data Shown : Type 0 where
   refusal : ℕ → Shown
   answer : Answer → List Applied → List Expired → Shown
   line : Line → Shown
   base : ℕ → Shown
+  counts : List CountRow → Shown
   service : Bool → Shown
 
 abbrev pub shown : Outcome → Shown
@@ -74,6 +76,10 @@ putEvent c n k = bookOut c n (key k k) k
 abbrev pub putPrint : ℕ → ℕ → ℕ → Applied
 putPrint c k times = printOut c (key k k) k times
 
+-- so many copies of the print k, delivered by a connection
+abbrev pub countOf : ℕ → ℕ → ℕ → CountRow
+countOf c k n = record { key = key k k; conn = c; delivered = n }
+
 -- a row of the table: what is shown, and what it should be. H is 16, or h
 abbrev pub Row : Type 0
 Row = Shown × Shown
@@ -90,6 +96,9 @@ leaves xs c l = let m = after (fresh (limits 16) 0) xs in (line ((connAt (lineOf
 unfoldable pub bases : List Call → ℕ → Row
 bases xs n = (base ((after (fresh (limits 16) 0) xs) .log .base), base n)
 
+unfoldable pub keeps : List Call → List CountRow → Row
+keeps xs rs = (counts ((after (fresh (limits 16) 0) xs) .prints .countRows), counts rs)
+
 unfoldable pub serves : List Call → Bool → Row
 serves xs b = (service (servable (after (fresh (limits 16) 0) xs)), service b)
 
@@ -100,6 +109,14 @@ two = joins 1 0 ++ joins 2 0 ++ (tickAt 1000 (0 ∷ 1 ∷ []) ∷ [])
 -- 2 pending with pqrs, 1 waiting with a snapshot and pqrs, nobody in line any more
 unfoldable pub deserted : List Call
 deserted = joins 3 0 ++ joins 2 0 ++ pqrs 2 ++ (Subscribe 1 0 ∷ snap 1 0 0 ∷ []) ++ pqrs 1 ++ (Subscribe 3 0 ∷ [])
+
+-- 1 delivers the prints 8 and 9, and 2 the print 8
+unfoldable pub delivers : List Call
+delivers = Subscribe 1 0 ∷ Subscribe 2 0 ∷ printOf 1 8 ∷ printOf 2 8 ∷ printOf 1 9 ∷ []
+
+-- a print of 1 is put out, and 1 subscribes again and takes over
+unfoldable pub again : List Call
+again = Subscribe 1 0 ∷ snap 1 0 0 ∷ printOf 1 9 ∷ Subscribe 1 0 ∷ snap 1 0 0 ∷ []
 
 -- the first n calls of the listing
 unfoldable pub listing : ℕ → List Call
@@ -131,8 +148,16 @@ points =
     ∷ says (two ++ (printOf 1 9 ∷ printOf 1 9 ∷ printOf 2 9 ∷ [])) (answer duplicate [] [])
     ∷ says (two ++ (printOf 1 9 ∷ printOf 1 9 ∷ printOf 2 9 ∷ printOf 2 9 ∷ [])) (answer duplicate [] [])
     ∷ says (two ++ (printOf 1 9 ∷ printOf 1 9 ∷ printOf 2 9 ∷ printOf 2 9 ∷ printOf 2 9 ∷ [])) (answer apply (putPrint 2 9 1 ∷ []) [])
-    -- print while Waiting, subscribe again, snapshot 0 with nobody in line, print: times 2
-    ∷ says (Subscribe 1 0 ∷ printOf 1 9 ∷ Subscribe 1 0 ∷ snap 1 0 0 ∷ printOf 1 9 ∷ []) (answer apply (putPrint 1 9 2 ∷ []) [])
+    -- request 1: print while Waiting, subscribe again, snapshot 0 with nobody in line, print: times 1
+    ∷ says (Subscribe 1 0 ∷ printOf 1 9 ∷ Subscribe 1 0 ∷ snap 1 0 0 ∷ printOf 1 9 ∷ []) (answer apply (putPrint 1 9 1 ∷ []) [])
+    -- request 1: subscribe removes its connection's counts, of every key, and nobody else's; a refused one removes none
+    ∷ keeps delivers (countOf 1 8 1 ∷ countOf 2 8 1 ∷ countOf 1 9 1 ∷ [])
+    ∷ keeps (delivers ++ (Subscribe 1 0 ∷ [])) (countOf 2 8 1 ∷ [])
+    ∷ keeps (delivers ++ (Drop 1 0 1000 ∷ Subscribe 3 0 ∷ Subscribe 4 0 ∷ Subscribe 5 0 ∷ Subscribe 1 0 ∷ []))
+    (countOf 1 8 1 ∷ countOf 2 8 1 ∷ countOf 1 9 1 ∷ [])
+    -- request 1: applied counts remain, so of two more copies the first is no new one
+    ∷ says (again ++ (printOf 1 9 ∷ [])) (answer duplicate [] [])
+    ∷ says (again ++ (printOf 1 9 ∷ printOf 1 9 ∷ [])) (answer apply (putPrint 1 9 1 ∷ []) [])
     -- held, released by a take-over, printed again: a release leaves applied = delivered
     ∷ says (Subscribe 1 0 ∷ printOf 1 9 ∷ snap 1 0 0 ∷ []) (answer apply (putSnap 1 ∷ putPrint 1 9 1 ∷ []) [])
     ∷ says (Subscribe 1 0 ∷ printOf 1 9 ∷ snap 1 0 0 ∷ printOf 1 9 ∷ []) (answer apply (putPrint 1 9 1 ∷ []) [])
@@ -152,7 +177,7 @@ points =
     -- and a sweep after the next event: 2 lines up
     ∷ leaves (deserted ++ (snap 1 1 0 ∷ event 1 5 ∷ [])) 2 (InLine 4 false false)
     -- counts outlive a drop
-    ∷ says (Subscribe 1 0 ∷ printOf 1 9 ∷ Drop 1 0 1000 ∷ Subscribe 1 0 ∷ snap 1 0 0 ∷ printOf 1 9 ∷ []) (answer apply (putPrint 1 9 2 ∷ []) [])
+    ∷ keeps (delivers ++ (Drop 1 0 1000 ∷ [])) (countOf 1 8 1 ∷ countOf 2 8 1 ∷ countOf 1 9 1 ∷ [])
     -- at 10,000 a Waiting line that holds a snapshot fails; a Pending one with a snapshot time rebuilds
     ∷ says (joins 1 0 ++ (Subscribe 2 0 ∷ snap 2 0 0 ∷ tickAt 10000 (0 ∷ 0 ∷ []) ∷ [])) (answer done [] (Expired.Failed 2 ∷ []))
     ∷ says (joins 1 0 ++ joins 2 0 ++ (tickAt 10000 (0 ∷ 0 ∷ []) ∷ [])) (answer done (putSnap 2 ∷ putSnap 2 ∷ []) (Expired.Rebuild 2 2 ∷ []))

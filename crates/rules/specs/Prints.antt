@@ -1,7 +1,7 @@
 -- 01, Prints: per key an applied count and a touched time, and a delivered count per connection.
 -- Both tables are kept in order, so that equal maps are equal lists.
 use mathlib.Core.List.{List, []}
-use mathlib.Core.Bool.{Bool, _&&_, _||_, cond}
+use mathlib.Core.Bool.{Bool, not, _&&_, _||_, cond}
 use Prim.Native.Nat.{ℕ, suc}
 use lib.Dec.{leb, ltb, eqb}
 use Rattle.rules.specs.Lists.{keep, any, first, amend, insert, maybe}
@@ -73,6 +73,13 @@ setApplied k n rs = amend (ofKey k) (λ r. record { key = r .key; applied = n; t
 
 abbrev pub applyPrint : Key → ℕ → Prints → Prints
 applyPrint k n p = record { keyRows = setApplied k n (p .keyRows); countRows = p .countRows }
+
+-- request 1: counts outlive drop, and subscribe removes the delivered counts of its connection, of every key; applied counts remain
+abbrev pub ofOther : ℕ → CountRow → Bool
+ofOther c r = not (eqb (r .conn) c)
+
+abbrev pub removeCounts : ℕ → Prints → Prints
+removeCounts c p = record { keyRows = p .keyRows; countRows = keep (ofOther c) (p .countRows) }
 
 -- keys untouched for more than 30,000 go, with all their rows
 abbrev pub expirePrints : ℕ → Prints → Prints

@@ -10,7 +10,7 @@ use lib.Seq.{drop-cons}
 use borrow.Author.Tests.{ltb-false, lt-ltb, le-ltb, eqb-true, eq-eqb, ne-eqb}
 use Rattle.rules.specs.declared.Limits.{Limits}
 use Rattle.rules.specs.Lists.{any}
-use Rattle.rules.specs.Lines.{lineOf}
+use Rattle.rules.specs.Lines.{lineOf, lineFor}
 use Rattle.rules.specs.Calls.{Outcome, refuse, snapshot}
 use Rattle.rules.specs.Tick.{tick}
 use Rattle.rules.specs.Refusals.{Call, Snapshot, Tick, step, short, roomNeeded, badAnswers}
@@ -18,7 +18,7 @@ use Rattle.rules.specs.Answers.{Said, number}
 use Rattle.rules.proofs.Tests.{ff≢tt}
 use Rattle.store.specs.Store.{limitsOf, lineCount, marketOf, Sound}
 use Rattle.store.proofs.MarketLaws.{market-limits, lines-count}
-use Rattle.market.specs.Lent.{Lent, lent, lineFor, Answers, Roomy}
+use Rattle.market.specs.Lent.{Lent, lent, Answers, Roomy}
 use Rattle.market_tick.specs.Turns.{lentAll}
 use Rattle.market.proofs.AnswerLaws.{refuses}
 use Rattle.steps.specs.Steps.{Steps, records, reportRoom}

@@ -26,7 +26,7 @@ fn short(s: &[u64], len: usize) -> bool
     room < limits.L * (2 * limits.H + 8) + 1
 }
 
-// A connection subscribes: its line becomes Waiting, empty, since t.
+// A connection subscribes: its delivered counts go, and its line becomes Waiting, empty, since t.
 pub fn subscribe(s: &mut [u64], conn: u64, t: u64) -> Changed
     requires { ⌜ Sound (now s) ⌝ }
     ensures { λ r. ⌜ Steps (Subscribe conn t) (alone (now (s .entry))) (ofChanged r) (alone (now (s .exit))) ⌝ }

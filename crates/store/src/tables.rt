@@ -9,7 +9,7 @@ ghost use mathlib.Core.Bool.{false};
 ghost use Prim.Native.Nat.{_≤_, _<_};
 ghost use lib.ListN.{length};
 ghost use Rattle.rules.specs.Quantities.{maxCount};
-ghost use Rattle.rules.specs.Prints.{appliedIn, deliveredIn, counted, applyPrint, expirePrints};
+ghost use Rattle.rules.specs.Prints.{appliedIn, deliveredIn, counted, applyPrint, removeCounts, expirePrints};
 ghost use Rattle.rules.specs.Calls.{noRow};
 ghost use Rattle.rules.specs.Lines.{withPrints};
 ghost use Rattle.store.specs.Store.{usedOf, putUsed, tableWords, marketOf, Sized};
@@ -120,6 +120,19 @@ pub fn apply(s: &mut [u64], key: EventKey, n: u64, place: Place)
     let e = crate::areas::lines_start(s);
     let old = used(s);
     prints::apply(&mut s[a..e], c, old, key, n, place);
+}
+
+// The connection's delivered counts go, of every key.
+pub fn remove_counts(s: &mut [u64], conn: u64)
+    requires { ⌜ Tabled (now s) ⌝ }
+    ensures { λ _. ⌜ Moved (now (s .entry)) (now (s .exit)) (withPrints (removeCounts conn (marketOf (now (s .entry)) .prints)) (marketOf (now (s .entry)))) ⌝ }
+{
+    let c = s[3] as usize;
+    let a = crate::areas::tables_start(s);
+    let e = crate::areas::lines_start(s);
+    let old = used(s);
+    let new = prints::remove_counts(&mut s[a..e], c, old, conn);
+    put_used(s, new);
 }
 
 // The print keys that are untouched for too long at t go, with all their rows.

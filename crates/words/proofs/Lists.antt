@@ -136,29 +136,27 @@ module _ {A : Type 0} where
       go true r = cons refl r
       go false r = r
 
-  -- of the rows f the first i are looked at, and the j that pass stand at the front of g, which is f from i on
+  -- of the rows f the first i are looked at, and the j that pass stand at the front of g
   pub record Kept (t : A → Bool) (f g : ℕ → A) (i j : ℕ) : Type 0 where
     pub fewer : j ≤ i
     pub front : tab j g ≡ keep t (tab i f)
-    pub rest : (k : ℕ) → i ≤ k → g k ≡ f k
 
-  pub kept-none : (t : A → Bool) (f : ℕ → A) → Kept t f f 0 0
-  kept-none t f = record { fewer = omega arith; front = refl; rest = λ k h. refl }
+  pub kept-none : (t : A → Bool) (f g : ℕ → A) → Kept t f g 0 0
+  kept-none t f g = record { fewer = omega arith; front = refl }
 
   module _ (t : A → Bool) (f g : ℕ → A) (i j : ℕ) (s : Kept t f g i j) where
     one-more : keep t (tab (i + 1) f) ≡ keep t (tab i f) ++ cond (t (f i)) (f i ∷ []) []
     one-more = ap (keep t) (tab-snoc i f) ∙ keep-snoc t (tab i f) (f i)
 
-    pub kept-yes : (g′ : ℕ → A) → t (f i) ≡ true → g′ j ≡ g i → ((k : ℕ) → (k ≡ j → ⊥) → g′ k ≡ g k) → Kept t f g′ (i + 1) (j + 1)
+    pub kept-yes : (g′ : ℕ → A) → t (f i) ≡ true → g′ j ≡ f i → ((k : ℕ) → k < j → g′ k ≡ g k) → Kept t f g′ (i + 1) (j + 1)
     kept-yes g′ e p q =
         record {
           fewer = omega (arith, s .fewer);
           front =
               tab-snoc j g′
-              ∙ ap (λ (x : A). tab j g′ ++ (x ∷ [])) (p ∙ s .rest i (omega arith))
-              ∙ ap (λ (l : List A). l ++ (f i ∷ [])) (tab-ext j g′ g (λ k l. q k (λ z. omega arith)) ∙ s .front)
+              ∙ ap (λ (x : A). tab j g′ ++ (x ∷ [])) p
+              ∙ ap (λ (l : List A). l ++ (f i ∷ [])) (tab-ext j g′ g q ∙ s .front)
               ∙ sym (one-more ∙ ap (λ (b : Bool). keep t (tab i f) ++ cond b (f i ∷ []) []) e);
-          rest = λ k h. q k (λ z. omega (arith, s .fewer)) ∙ s .rest k (omega arith);
         }
 
     pub kept-no : t (f i) ≡ false → Kept t f g (i + 1) j
@@ -166,7 +164,6 @@ module _ {A : Type 0} where
         record {
           fewer = omega (arith, s .fewer);
           front = s .front ∙ sym (one-more ∙ ap (λ (b : Bool). keep t (tab i f) ++ cond b (f i ∷ []) []) e ∙ append-nil (keep t (tab i f)));
-          rest = λ k h. s .rest k (omega arith);
         }
 
   -- what one test lets pass another refuses

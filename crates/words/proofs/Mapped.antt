@@ -3,7 +3,7 @@ use mathlib.Core.Path.{_≡_, refl, ap}
 use mathlib.Core.List.{List, [], _∷_, map}
 use mathlib.Core.Option.{some}
 use mathlib.Core.Bool.{Bool, true, false, _||_, cond}
-use Rattle.rules.specs.Lists.{any, first, amend, insert, maybe, Each, Rising}
+use Rattle.rules.specs.Lists.{any, first, amend, insert, keep, maybe, Each, Rising}
 
 module _ {A B : Type 0} (f : A → B) where
   pub any-map : (t : B → Bool) (l : List A) → any t (map f l) ≡ any (λ x. t (f x)) l
@@ -37,6 +37,15 @@ module _ {A B : Type 0} (f : A → B) where
           → map f (cond b (a ∷ x ∷ xs) (x ∷ insert (λ y z. lt (f y) (f z)) a xs)) ≡ cond b (f a ∷ f x ∷ map f xs) (f x ∷ insert lt (f a) (map f xs))
       go true q = refl
       go false q = ap (λ (l : List B). f x ∷ l) q
+
+  pub keep-map : (t : B → Bool) (l : List A) → map f (keep (λ x. t (f x)) l) ≡ keep t (map f l)
+  keep-map t [] = refl
+  keep-map t (x ∷ xs) = go (t (f x)) (keep-map t xs)
+    where
+      go : (b : Bool) → map f (keep (λ y. t (f y)) xs) ≡ keep t (map f xs)
+          → map f (cond b (x ∷ keep (λ y. t (f y)) xs) (keep (λ y. t (f y)) xs)) ≡ cond b (f x ∷ keep t (map f xs)) (keep t (map f xs))
+      go true q = ap (λ (l : List B). f x ∷ l) q
+      go false q = q
 
   pub each-map : (P : B → Type 0) (l : List A) → Each (λ x. P (f x)) l → Each P (map f l)
   each-map P [] e = tt

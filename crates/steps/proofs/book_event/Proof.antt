@@ -1,10 +1,10 @@
 use mathlib.Core.Path.{refl, sym, _∙_}
 use borrow.Author.Needs.{needs}
-use Rattle.rules.specs.Lines.{lineOf}
+use Rattle.rules.specs.Lines.{lineOf, lineFor}
 use Rattle.rules.specs.Calls.{bookEvent}
 use Rattle.rules.specs.Refusals.{BookEvent, step}
 use Rattle.store.specs.Store.{marketOf}
-use Rattle.market.specs.Lent.{lineFor}
+use Rattle.market.specs.Lent.{}
 use Rattle.steps.specs.Steps.{records}
 use Rattle.steps.proofs.StepLaws.{roomy, steps-short, steps-roomy}
 use Rattle.steps.proofs.book_event.Statement.{statement}

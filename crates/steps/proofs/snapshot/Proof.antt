@@ -1,11 +1,11 @@
 use mathlib.Core.Path.{sym, _∙_}
 use native.Mathlib.Omega.{arith}
 use borrow.Author.Needs.{needs}
-use Rattle.rules.specs.Lines.{lineOf}
+use Rattle.rules.specs.Lines.{lineOf, lineFor}
 use Rattle.rules.specs.Calls.{snapshot}
 use Rattle.rules.specs.Refusals.{Snapshot}
 use Rattle.store.specs.Store.{marketOf}
-use Rattle.market.specs.Lent.{lineFor}
+use Rattle.market.specs.Lent.{}
 use Rattle.steps.specs.Steps.{records}
 use Rattle.steps.proofs.StepLaws.{roomy, steps-short, steps-roomy, token-bad, token-good}
 use Rattle.steps.proofs.snapshot.Statement.{statement}

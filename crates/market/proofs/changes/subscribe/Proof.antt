@@ -1,6 +1,7 @@
-use mathlib.Core.Path.{sym, _∙_}
 use Rattle.store.proofs.ConnLaws.{lined-sound}
-use Rattle.market.proofs.AskLaws.{full-said, subscribe-full, subscribe-done}
+use Rattle.store.proofs.TableLaws.{tabled}
+use Rattle.market.proofs.AskLaws.{subscribe-full, subscribe-ready, subscribe-done}
+use mathlib.Core.Path.{_∙_}
 use borrow.Author.Needs.{needs}
 use Rattle.market.proofs.changes.subscribe.Statement.{statement}
 use Rattle.market.proofs.changes.subscribe.Tie as tie
@@ -14,21 +15,31 @@ returns c =
     let f = l .before .before in
     subscribe-full _ _ (f .find .ensures) (f .before .before .count .ensures) (l .limits .ensures) _ (c .if1 .taken)
 
+remove-counts-requires : tie.Need-remove-counts-requires
+remove-counts-requires c κs =
+    let l = c .before .before .before in
+    let n = l .before .before .before .before in
+    tabled (n .before .before .before .pre)
+
 subscribe-requires : tie.Need-subscribe-requires
 subscribe-requires c κs =
-    let l = c .before .before .before in
+    let r = c .before .before .before in
+    let e = r .before .before in
+    let l = e .before .before in
     let f = l .before .before in
     let n = f .before .before in
-    (n .before .before .before .pre, sym (full-said _ _ (f .find .ensures) (n .count .ensures) (l .limits .ensures)) ∙ c .before .if1 .left)
+    subscribe-ready _ _ (f .find .ensures) (n .count .ensures) (l .limits .ensures) _ (n .before .before .before .pre) (e .if1 .left) (r .remove-counts .ensures)
 
 returns-2 : tie.Need-returns-2
 returns-2 c =
     let d = c .before .before in
-    let e = d .before .before in
+    let r = d .before .before .before .before in
+    let e = r .before .before in
     let l = e .before .before in
     let f = l .before .before in
     let n = f .before .before in
-    subscribe-done _ _ (f .find .ensures) (n .count .ensures) (l .limits .ensures) _ _ (n .before .before .before .pre) (e .if1 .left) (d .subscribe .kept .0) (d .subscribe .ensures)
+    subscribe-done _ _ (f .find .ensures) (n .count .ensures) (l .limits .ensures) _ (n .before .before .before .pre) (e .if1 .left) (r .remove-counts .ensures)
+    _ _ (d .subscribe .kept .0 ∙ r .remove-counts .kept .0) (d .subscribe .ensures)
 
 pub subscribe-spec : {M : Type 1} → statement M
 subscribe-spec =
@@ -39,6 +50,7 @@ subscribe-spec =
     (λ c κs. search needs)
     (λ c. search needs)
     returns
+    remove-counts-requires
     subscribe-requires
     (λ c. search needs)
     returns-2)
