@@ -152,7 +152,7 @@ typedef struct {
 uint64_t merge_setup(uint64_t *store, size_t words, uint64_t lines, uint64_t held, uint64_t events, uint64_t keys,
                      uint64_t pairs, uint64_t start, uint64_t *count);
 
-/* The connection subscribed. */
+/* The connection subscribed: what it held goes, and so do its counts of prints delivered before. */
 uint64_t merge_subscribe(uint64_t *store, size_t words, uint64_t conn, uint64_t time, uint64_t *count);
 
 /* The connection's snapshot of token 0 or 1. A message is the host's own number for it. */

@@ -168,7 +168,7 @@ impl<M, A> MarketMerge<M, A> {
         self.store.reading()
     }
 
-    /// The connection subscribed the market; its snapshots are due. What it held before is let go.
+    /// The connection subscribed the market; its snapshots are due. What it held before is let go, and its counts of prints begin anew.
     ///
     /// # Errors
     /// [`Refusal::Lines`] for a new connection where all lines are taken.

@@ -21,13 +21,15 @@ const CALLS: [(&str, &[&str], &[u64]); 13] = [
 ];
 const RECORDS: [&str; 4] = ["snapshot", "book", "print", "print, times 2 or more"];
 const REPORTS: [&str; 3] = ["aligned", "rebuild", "failed"];
-// What becomes of the new rows of the print tables.
-const ROWS: [&str; 5] = [
+// What becomes of the rows of the print tables.
+const ROWS: [&str; 7] = [
     "a key put among the new ones",
     "new keys merged by a print",
     "a pair put among the new ones",
     "new pairs merged by a print",
     "new rows merged by a tick",
+    "pairs in order removed by a subscribe",
+    "new pairs removed by a subscribe",
 ];
 const LISTS: [&str; 5] = ["L 1", "L 16", "H 1", "H 5000", "from a market made by hand"];
 
@@ -87,6 +89,8 @@ impl Seen {
                 Call::Print { .. } if old_after > old => ROWS[2 * i + 1],
                 Call::Print { .. } if new_after > new => ROWS[2 * i],
                 Call::Tick if new > 0 && new_after == 0 => ROWS[4],
+                Call::Subscribe { .. } if old_after < old => ROWS[5],
+                Call::Subscribe { .. } if new_after < new => ROWS[6],
                 _ => continue,
             };
             self.see(("rows", word, "", 0));

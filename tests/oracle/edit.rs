@@ -1,7 +1,10 @@
-// edit ORIGINAL OUT [hashed]: writes the original feed_merge.rs with the edits that the comparison needs; `hashed` keeps its lines
-// in a HashMap, as it has them. Each edit has to find its text the number of times that it names, so that an original of another
-// shape is not compared by mistake.
+// edit ORIGINAL OUT [hashed|counts-stay]: writes the original feed_merge.rs with the edits that the comparison needs; `hashed` keeps
+// its lines in a HashMap, as it has them, and `counts-stay` its counts at a subscription, as they were before request 1. Each edit has
+// to find its text the number of times that it names, so that an original of another shape is not compared by mistake.
 use std::process::exit;
+
+const SUBSCRIBE: &str = "    pub fn subscribe(&mut self, conn: ConnId, now: Instant) {\n";
+const REMOVAL: &str = "        for copies in self.others.values_mut() { copies.delivered.remove(&conn); }\n";
 
 fn fail(why: &str) -> ! {
     eprintln!("edit: {why}");
@@ -25,9 +28,10 @@ fn cut(text: &mut String, from: &str, to: &str) {
 
 fn main() {
     let args: Vec<String> = std::env::args().collect();
-    let hashed = args.len() == 4 && args[3] == "hashed";
-    if args.len() != 3 && !hashed {
-        fail("usage: edit ORIGINAL OUT [hashed]");
+    let form = args.get(3).map_or("", String::as_str);
+    let (hashed, counts_stay) = (form == "hashed", form == "counts-stay");
+    if args.len() != 3 && !(args.len() == 4 && (hashed || counts_stay)) {
+        fail("usage: edit ORIGINAL OUT [hashed|counts-stay]");
     }
     let mut text = std::fs::read_to_string(&args[1]).unwrap_or_else(|e| fail(&format!("{}: {e}", args[1])));
     let t = &mut text;
@@ -40,6 +44,10 @@ fn main() {
         // lines by rising connection
         cut(t, "#[cfg(not(test))]\ntype Lines", "/// One market's merge");
         replace(t, 1, "/// One market's merge", "type Lines = std::collections::BTreeMap<ConnId, Line>;\n\n/// One market's merge");
+    }
+    if !counts_stay {
+        // request 1: subscribe removes the connection's delivered counts
+        replace(t, 1, SUBSCRIBE, &format!("{SUBSCRIBE}{REMOVAL}"));
     }
     // the held limit comes from setup
     replace(t, 1, "items.len() >= MAX_HELD", "items.len() >= self.max_held");

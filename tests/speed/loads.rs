@@ -176,24 +176,46 @@ fn pruning_ticks(rate: u64) -> Load {
     load(format!("prune-{rate}"), format!("tick that forgets {} of {} events", number(rate), number(11 * rate)), f)
 }
 
+fn storm_once(f: &mut Feed, conns: u64, next: &mut u64) {
+    for conn in 1..=conns {
+        f.subscribe(conn);
+    }
+    f.snapshots(1);
+    f.race(1, 1, *next, *next + 4);
+    *next += 4;
+    for conn in 2..=conns {
+        f.snapshots(conn);
+        f.race(conn, conn, *next - 4, *next);
+    }
+}
+
 // All subscribe again and line up again.
 fn storm(conns: u64) -> Load {
     let mut f = Feed::new();
     let mut next = f.in_line(conns, 40);
     f.part(true);
     for _ in 0..20 {
-        for conn in 1..=conns {
-            f.subscribe(conn);
-        }
-        f.snapshots(1);
-        f.race(1, 1, next, next + 4);
-        next += 4;
-        for conn in 2..=conns {
-            f.snapshots(conn);
-            f.race(conn, conn, next - 4, next);
-        }
+        storm_once(&mut f, conns, &mut next);
     }
     load(format!("storm-{conns}"), format!("storm: {conns} subscribe again and line up"), f)
+}
+
+// The same with so many prints in use that all have delivered, and deliver again before the next storm.
+fn storm_of_prints(conns: u64, keys: u64) -> Load {
+    let mut f = Feed::new();
+    let mut next = f.in_line(conns, 40);
+    for _ in 0..3 {
+        f.part(false);
+        for number in first_prints(keys) {
+            deliver(&mut f, conns, number);
+        }
+        f.part(true);
+        storm_once(&mut f, conns, &mut next);
+    }
+    let what = format!("storm: {conns} subscribe again and line up, {} keys in use", number(keys));
+    let mut load = load(format!("storm-{conns}-{keys}"), what, f);
+    load.tested = if keys < 1_000 { 4_000 } else { 40 };
+    load
 }
 
 // The oldest connection goes, and a new one joins.
@@ -239,6 +261,9 @@ pub fn all() -> Vec<(String, Make)> {
         add(format!("prune-{rate}"), Box::new(move || pruning_ticks(rate)));
     }
     add("storm-16".into(), Box::new(|| storm(16)));
+    for keys in [100, 4_000] {
+        add(format!("storm-16-{keys}"), Box::new(move || storm_of_prints(16, keys)));
+    }
     add("replace-16".into(), Box::new(|| replaced(16)));
     all
 }

@@ -25,7 +25,7 @@ fn events_of_one_connection() {
     run.seconds(1);
     run.check();
     run.events(8);
-    run.print(1);
+    run.print(2);
     run.check();
 }
 

@@ -52,6 +52,25 @@ fn prints_without_a_pair() {
     run.check();
 }
 
+/// Counts begin with the subscription: of two equal prints around one, the second counts only where
+/// another connection delivered both. Behind it each counts.
+#[test]
+fn equal_prints_around_a_subscription() {
+    for (conns, volume) in [(&[1][..], 1), (&[1, 2][..], 2)] {
+        let mut run = Run::new(LIMITS, 0, conns);
+        run.print(1);
+        run.close(1);
+        run.venue.subscribe(1, 0, 0);
+        run.seconds(2);
+        run.events(4);
+        run.print(1);
+        assert_eq!(run.host.volume[&1], volume);
+        run.print(1);
+        assert_eq!(run.host.volume[&1], volume + 1);
+        run.check_book();
+    }
+}
+
 /// Its connection has no line when the print is offered again: it waits for that too.
 #[test]
 fn print_of_a_dropped_connection() {

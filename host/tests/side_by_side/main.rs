@@ -1,5 +1,5 @@
 //! The drop-in beside the original on random call lists, through the public API alone. Needs the original: FEED_MERGE is the path of
-//! feed_merge.rs, which tests/oracle/edit.rs makes to compile alone. LISTS and SEED choose the lists.
+//! feed_merge.rs, which tests/oracle/edit.rs makes to compile alone, with request 1's removal. LISTS and SEED choose the lists.
 #[cfg(original)]
 mod desks;
 #[cfg(original)]
@@ -55,6 +55,19 @@ fn each_copy_of_a_print_counts() {
     desk.reset(now);
     desk.tick(now);
     assert_eq!((desk.volume, desk.book), (10, vec![1, 2]));
+}
+
+/// The desk's question: a print of five contracts while the connection waits, and one behind its new subscription. It counts once.
+#[test]
+fn counts_begin_with_the_subscription() {
+    let mut desk = drop_in_desk::Desk::new(drop_in_desk::MarketMerge::default());
+    let (now, key) = (std::time::Instant::now(), pollendrift::EventKey::new(9, 9));
+    desk.subscribe(1, now);
+    desk.print(1, key, 5, now);
+    desk.subscribe(1, now);
+    desk.snapshot(1, 0, 1, now);
+    desk.print(1, key, 5, now);
+    assert_eq!(desk.volume, 5);
 }
 
 #[cfg(original)]
