@@ -1,0 +1,13 @@
+pub mod Reading
+pub mod Prices
+pub mod Shifts
+pub mod Halving
+pub mod Totals
+pub mod SideLaws
+pub mod Setting
+pub mod Order
+pub mod Books
+pub mod Theorems
+pub mod ReverseLists
+pub mod Reversed
+pub mod Points

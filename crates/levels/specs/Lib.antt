@@ -1,0 +1,3 @@
+pub mod Depth
+pub mod Work
+pub mod Theorems
