@@ -1,7 +1,8 @@
-//! The exported functions of `crates/exports` and `crates/owned`. A slice is a pointer and a length; the slices and pointers of one
-//! call may not overlap. The answer of a call is a code, see `store.rs`.
+//! The exported functions of `crates/exports`, `crates/owned` and `crates/depth_exports`. A slice is a pointer and a length; the slices
+//! and pointers of one call may not overlap. The answer of a call is a code, see `store.rs`.
 //!
-//! The `owned_` functions ask for a sound store and do not test it: words that setup made and that nobody but they wrote since.
+//! The `owned_` functions ask for a sound store and do not test it: words that setup made and that nobody but they wrote since. Those of a
+//! depth ask for a sound side: one that was empty and that nobody but they wrote since.
 
 extern "C" {
     pub fn merge_setup(
@@ -92,4 +93,32 @@ extern "C" {
     pub fn owned_any_in_line(store: *const u64, words: usize) -> bool;
     pub fn owned_servable(store: *const u64, words: usize) -> bool;
     pub fn merge_key(bytes: *const u8, length: usize, key0: &mut u64, key1: &mut u64);
+    pub fn owned_depth_set(
+        prices: &mut [u32; 512],
+        sizes: &mut [f64; 512],
+        count: usize,
+        bid: bool,
+        price: u32,
+        size: f64,
+        left: &mut u64,
+    ) -> u64;
+    pub fn owned_depth_trim(
+        prices: &[u32; 512],
+        count: usize,
+        bid: bool,
+        reported: bool,
+        best: u32,
+    ) -> usize;
+    pub fn owned_depth_bid_from(
+        prices: &[u32; 512],
+        sizes: &[f64; 512],
+        count: usize,
+        floor: u32,
+    ) -> f64;
+    pub fn owned_depth_ask_to(
+        prices: &[u32; 512],
+        sizes: &[f64; 512],
+        count: usize,
+        ceiling: u32,
+    ) -> f64;
 }

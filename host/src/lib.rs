@@ -1,11 +1,14 @@
 //! `MarketMerge` for Rust hosts: several market-data connections, one book per market.
 //!
 //! The types and functions are those of the original `feed_merge` module, generic over the host's message type. The work is done by
-//! the proved calls of this repository, linked as a static library (`crates/exports`). See README.md for how to switch and for what
-//! differs.
+//! the proved calls of this repository, linked as static libraries (`crates/exports`, `crates/owned`). See README.md for how to switch
+//! and for what differs.
+//!
+//! [`Depth`] is a token's price levels, with the functions of the original `market_data` module (`crates/depth_exports`).
 #![deny(missing_docs, unsafe_op_in_unsafe_fn)]
 #![warn(clippy::undocumented_unsafe_blocks)]
 
+mod depth;
 mod ffi;
 mod kept;
 mod key;
@@ -17,6 +20,7 @@ mod refusal;
 mod store;
 mod types;
 
+pub use depth::{Depth, LevelRefusal};
 pub use key::EventKey;
 pub use limits::Limits;
 pub use merge::MarketMerge;

@@ -5,7 +5,11 @@ use std::process::Command;
 
 const HERE: &str = env!("CARGO_MANIFEST_DIR");
 const WARNINGS: [&str; 4] = ["-Wall", "-Wextra", "-pedantic", "-Werror"];
-const HEADERS: [&str; 2] = ["pollendrift.h", "pollendrift_owned.h"];
+const HEADERS: [&str; 3] = [
+    "pollendrift.h",
+    "pollendrift_owned.h",
+    "pollendrift_depth.h",
+];
 
 /// A compiler: its language, the variable that names it, and its name else.
 type Compiler = [&'static str; 3];
@@ -99,6 +103,11 @@ fn batch() {
 #[test]
 fn owned() {
     prints("c/owned.c", "c/owned.expected");
+}
+
+#[test]
+fn depth() {
+    prints("c/depth.c", "c/depth.expected");
 }
 
 /// Each time the program ends with a reason.
