@@ -10,7 +10,7 @@
  * behaviour is undefined. They leave a side that they may be used on again.
  *
  * A depth_ call answers DEPTH_DONE, or DEPTH_REFUSED with the refusal's number in *count (of depth_trim in *bid_count). A refusal changes
- * no array, price or size. No call writes a count of a side: the host keeps what it is told.
+ * no array, price or size, and not *ask_count. The host keeps the counts of its sides by what it is told.
  *
  * Pointers  The arrays and pointers of one call may not overlap, and none is NULL. No call keeps a pointer.
  * Threads   The library keeps nothing between calls. One depth is for one call at a time, or for several that only read it.

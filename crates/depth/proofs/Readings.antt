@@ -24,7 +24,7 @@ reverse-tab (suc n) f =
     first : (n : ℕ) → n ≡ suc n - 1 - 0
     first n = omega arith
 
-pub split-side : (ls : List Level) (prices : List ℕ) (sizes : List Float) (n : ℕ) → Split ls n prices sizes → sideIn prices sizes n ≡ levelsIn ls n
+pub split-side : (ls : List Level) (prices : List ℕ) (sizes : List Float) (n : ℕ) → Split ls n prices sizes n → sideIn prices sizes n ≡ levelsIn ls n
 split-side ls prices sizes n s =
     reverse-tab n (levelIn prices sizes)
     ∙ tab-ext n (λ i. levelIn prices sizes (n - 1 - i)) (λ i. getD ls i blank)

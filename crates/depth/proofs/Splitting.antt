@@ -11,17 +11,13 @@ use Rattle.words.proofs.Cases.{below-or}
 use Rattle.levels.specs.declared.Level.{Level}
 use Rattle.levels.specs.Work.{levelIn}
 use Rattle.levels.proofs.Shifts.{same-level}
-use Rattle.depth.specs.Value.{blank}
+use Rattle.depth.specs.Value.{blank, Split}
 
--- the prices and the sizes of n of the levels
-abbrev pub SplitTo : List Level → (count : ℕ) → List ℕ → List Float → ℕ → Type 0
-SplitTo ls count prices sizes n = (i : ℕ) → i < n → levelIn prices sizes i ≡ getD ls (count - 1 - i) blank
-
-module _ (ls : List Level) (count : ℕ) (prices : List ℕ) (sizes : List Float) (n : ℕ) (s : SplitTo ls count prices sizes n) where
+module _ (ls : List Level) (count : ℕ) (prices : List ℕ) (sizes : List Float) (n : ℕ) (s : Split ls count prices sizes n) where
   abbrev here : Level
   here = getD ls (count - 1 - n) blank
 
-  pub split-more : n < length prices → n < length sizes → SplitTo ls count (set prices n (here .price)) (set sizes n (here .size)) (n + 1)
+  pub split-more : n < length prices → n < length sizes → Split ls count (set prices n (here .price)) (set sizes n (here .size)) (n + 1)
   split-more h k i l =
       ⊎-elim
       (λ b. same-level (getD-set-other prices n i (here .price) 0 (omega arith)) (getD-set-other sizes n i (here .size) nan (omega arith)) ∙ s i b)
@@ -30,7 +26,7 @@ module _ (ls : List Level) (count : ℕ) (prices : List ℕ) (sizes : List Float
       rw q (same-level (getD-set-same prices n (here .price) 0 h) (getD-set-same sizes n (here .size) nan k)))
       (below-or i n)
 
-  pub join-more : n < count → count ≤ length ls → SplitTo (set ls (count - 1 - n) (levelIn prices sizes n)) count prices sizes (n + 1)
+  pub join-more : n < count → count ≤ length ls → Split (set ls (count - 1 - n) (levelIn prices sizes n)) count prices sizes (n + 1)
   join-more h k i l =
       ⊎-elim
       (λ b. s i b ∙ sym (getD-set-other ls (count - 1 - n) (count - 1 - i) (levelIn prices sizes n) blank (omega arith)))

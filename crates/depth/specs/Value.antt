@@ -33,9 +33,9 @@ sideByValue s = levelsIn (s .levels) (s .count)
 abbrev pub bookOf : Depth → Book
 bookOf d = record { bids = sideByValue (d .bids); asks = sideByValue (d .asks) }
 
--- the prices and the sizes of the first count levels, from the last to the first
-abbrev pub Split : List Level → ℕ → List ℕ → List Float → Type 0
-Split ls count prices sizes = (i : ℕ) → i < count → levelIn prices sizes i ≡ getD ls (count - 1 - i) blank
+-- the prices and the sizes of n of the first count levels, from the last to the first
+abbrev pub Split : List Level → (count : ℕ) → List ℕ → List Float → (n : ℕ) → Type 0
+Split ls count prices sizes n = (i : ℕ) → i < n → levelIn prices sizes i ≡ getD ls (count - 1 - i) blank
 
 -- an answer beside what it is given with
 abbrev pub said : {A : Type 0} → Changed → A → Queried A

@@ -11,7 +11,7 @@ pub struct Columns {
 
 pub fn split(side: Side) -> Columns
     requires { ⌜ side .count ≤ 512 ⌝ }
-    ensures { λ r. ⌜ Split (side .levels) (side .count) (r .prices) (r .sizes) ⌝ }
+    ensures { λ r. ⌜ Split (side .levels) (side .count) (r .prices) (r .sizes) (side .count) ⌝ }
 {
     let count = side.count;
     let mut prices: [u32; 512] = [0; 512];
@@ -31,7 +31,7 @@ pub fn split(side: Side) -> Columns
 
 pub fn join(prices: [u32; 512], sizes: [f64; 512], count: usize) -> [Level; 512]
     requires { ⌜ count ≤ 512 ⌝ }
-    ensures { λ r. ⌜ Split r count prices sizes ⌝ }
+    ensures { λ r. ⌜ Split r count prices sizes count ⌝ }
 {
     let none = Level {
         price: 0,

@@ -105,11 +105,12 @@ pub extern "C" fn depth_trim(
     bid_count: &mut u64,
     ask_count: &mut u64,
 ) -> u64
-    ensures { λ r. ⌜ told r (now («bid_count» .exit)) (bookIn
+    ensures { λ r. ⌜ (told r (now («bid_count» .exit)) (bookIn
         (arrays (now («bid_prices» .entry)) (now («bid_sizes» .entry)) (now («ask_prices» .entry)) (now («ask_sizes» .entry)))
         (now («bid_count» .exit)) (now («ask_count» .exit)))
         ≡ Rules.trim (reportedBy «bid_reported» «best_bid») (reportedBy «ask_reported» «best_ask») (bookIn
-        (arrays (now («bid_prices» .entry)) (now («bid_sizes» .entry)) (now («ask_prices» .entry)) (now («ask_sizes» .entry))) bids asks) ⌝ }
+        (arrays (now («bid_prices» .entry)) (now («bid_sizes» .entry)) (now («ask_prices» .entry)) (now («ask_sizes» .entry))) bids asks))
+        × Same r (now («ask_count» .entry)) (now («ask_count» .exit)) ⌝ }
 {
     if !sound(bid_prices, bid_sizes, bids, ask_prices, ask_sizes, asks) {
         *bid_count = 1;

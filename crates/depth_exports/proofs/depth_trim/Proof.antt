@@ -1,10 +1,10 @@
-use mathlib.Core.Path.{_≡_, sym}
+use mathlib.Core.Path.{_≡_, refl, sym}
 use mathlib.Core.Bool.{true}
 use borrow.Author.Needs.{needs}
 use Rattle.levels.specs.Depth.{sound}
 use Rattle.levels.proofs.Books.{trim-done, trim-unsound}
 use Rattle.depth_exports.specs.Told.{Arrays, arrays, bookIn}
-use Rattle.depth_exports.proofs.Laws.{is-sound, is-unsound, bids-lie, asks-lie}
+use Rattle.depth_exports.proofs.Laws.{is-sound, is-unsound, bids-lie, asks-lie, not-refused}
 use Rattle.depth_exports.proofs.depth_trim.Statement.{statement}
 use Rattle.depth_exports.proofs.depth_trim.Tie as tie
 
@@ -16,7 +16,7 @@ good : (t : tie.Else1) → let s = t .before .before in sound (bookIn (lent s) (
 good t = is-sound _ _ (t .before .sound .ensures) (t .if1 .left)
 
 returns : tie.Need-returns
-returns c = sym (trim-unsound _ _ _ (is-unsound _ _ (c .before .sound .ensures) (c .if1 .taken)))
+returns c = (sym (trim-unsound _ _ _ (is-unsound _ _ (c .before .sound .ensures) (c .if1 .taken))), λ z. refl)
 
 trim-requires : tie.Need-trim-requires
 trim-requires c κs = let s = c .before .before .before in bids-lie (lent s) (s .args .bids) (s .args .asks) (good (c .before))
@@ -39,6 +39,7 @@ returns-2 c =
       ← (r .before .trim .ensures (x .bidSizes)),
       ← (c .trim2 .ensures (x .askSizes)),
     )
+    (refl, not-refused refl)
 
 pub depth-trim-spec : {M : Type 1} → statement M
 depth-trim-spec =

@@ -6,12 +6,13 @@ use native.Mathlib.Omega.{arith}
 use lib.ListN.{length, length-set}
 use Rattle.levels.specs.declared.Level.{Level}
 use Rattle.levels.specs.Work.{levelIn}
-use Rattle.depth.proofs.Splitting.{SplitTo, join-more}
+use Rattle.depth.specs.Value.{Split}
+use Rattle.depth.proofs.Splitting.{join-more}
 use Rattle.depth.proofs.columns.join.Statement.{statement}
 use Rattle.depth.proofs.columns.join.Tie as tie
 
 abbrev Inv-loop : tie.InvT-loop
-Inv-loop count prices sizes levels₀ i₀ levels i = (i ≤ count) × (length levels ≡ 512) × SplitTo levels count prices sizes i
+Inv-loop count prices sizes levels₀ i₀ levels i = (i ≤ count) × (length levels ≡ 512) × Split levels count prices sizes i
 
 abbrev μ-loop : tie.MeasureT-loop
 μ-loop count prices sizes levels₀ i₀ levels i = count - i

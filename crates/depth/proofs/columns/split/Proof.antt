@@ -5,14 +5,14 @@ use native.Mathlib.Nat.{not-suc-le-zero}
 use native.Mathlib.Omega.{arith}
 use lib.ListN.{length, getD, length-set}
 use Rattle.levels.specs.declared.Level.{Level}
-use Rattle.depth.specs.Value.{blank}
-use Rattle.depth.proofs.Splitting.{SplitTo, split-more}
+use Rattle.depth.specs.Value.{blank, Split}
+use Rattle.depth.proofs.Splitting.{split-more}
 use Rattle.depth.proofs.columns.split.Statement.{statement}
 use Rattle.depth.proofs.columns.split.Tie as tie
 
 abbrev Inv-loop : tie.InvT-loop
 Inv-loop side count prices₀ sizes₀ i₀ prices sizes i =
-    (i ≤ count) × (count ≡ side .count) × (length prices ≡ 512) × (length sizes ≡ 512) × SplitTo (side .levels) count prices sizes i
+    (i ≤ count) × (count ≡ side .count) × (length prices ≡ 512) × (length sizes ≡ 512) × Split (side .levels) count prices sizes i
 
 abbrev μ-loop : tie.MeasureT-loop
 μ-loop side count prices₀ sizes₀ i₀ prices sizes i = count - i

@@ -1,5 +1,5 @@
 use borrow.Author.Needs.{needs}
-use borrow.Author.Tests.{lt-leb, le-leb, not-true, not-false}
+use borrow.Author.Tests.{le-leb, not-true, not-false}
 use mathlib.Core.Path.{_≡_, refl, sym, _∙_}
 use mathlib.Core.Bool.{Bool, true, false, _&&_}
 use mathlib.Core.List.{List}
@@ -11,6 +11,7 @@ use Rattle.words.proofs.Tab.{length-tab, drop-tab-cons}
 use Rattle.levels.specs.declared.Level.{Level}
 use Rattle.levels.specs.Depth.{levelAllowed, betterThanNext, inOrder, sideSound}
 use Rattle.levels.specs.Work.{levelIn, levelsOf}
+use Rattle.levels.proofs.Reading.{over-unsound}
 use Rattle.levels.proofs.tests.ordered_sound.Statement.{statement}
 use Rattle.levels.proofs.tests.ordered_sound.Tie as tie
 
@@ -25,10 +26,6 @@ abbrev μ-loop : tie.MeasureT-loop
 module _ (falling : Bool) (prices : List ℕ) (sizes : List Float) (n : ℕ) where
   abbrev side : List Level
   side = levelsOf prices sizes n
-
-  many : 512 < n → sideSound falling side ≡ false
-  unfolding sideSound
-  many h = rw (length-tab n (levelIn prices sizes), lt-leb n 512 h)
 
   few : n ≤ 512 → sideSound falling side ≡ inOrder falling side
   unfolding sideSound
@@ -53,7 +50,7 @@ module _ (falling : Bool) (prices : List ℕ) (sizes : List Float) (n : ℕ) whe
 returns : tie.Need-returns Inv-loop μ-loop
 returns c =
     let a = c .before .args in
-    sym (many (a .falling) (a .prices .now) (a .sizes .now) _ (c .if1 .taken))
+    sym (over-unsound (a .falling) _ (levelIn (a .prices .now) (a .sizes .now)) (c .if1 .taken))
 
 returns-2 : tie.Need-returns-2 Inv-loop μ-loop
 returns-2 c =
