@@ -16,15 +16,15 @@ use Rattle.rules.specs.Lines as Rules
 use Rattle.rules.specs.Lines.{itemsOf}
 use Rattle.rules.specs.Calls.{apply, held, ignored, failed}
 use Rattle.rules.specs.Answers.{number, word}
+use Rattle.words.specs.Words.{tab}
 use Rattle.words.proofs.Tab.{length-tab, getD-tab}
-use Rattle.log.specs.Log.{keyIn, keysIn}
 use Rattle.place.specs.Items.{itemsIn}
 use Rattle.place.proofs.Items.{items-length, items-none}
 use Rattle.lines.specs.declared.Line.{Line}
 use Rattle.lines.specs.declared.Line.the-variants as Line
 use Rattle.lines.specs.declared.Aging.{Aging}
 use Rattle.lines.specs.declared.Aging.the-variants as Aging
-use Rattle.lines.specs.Line.{lineOf, heldOf, Stands, copyStep, eventStep, snapshotStep, timeStep, Ages}
+use Rattle.lines.specs.Line.{lineOf, heldOf, Stands, copyStep, endStep, eventStep, snapshotStep, timeStep, Ages}
 
 -- ---- the items that a line counts
 
@@ -84,27 +84,28 @@ items-full h n w l = ap (leb h) (items-length n w) ∙ le-leb h n l
 pub items-room : (h n : ℕ) (w : List ℕ) → n < h → leb h (length (itemsIn n w)) ≡ false
 items-room h n w l = ap (leb h) (items-length n w) ∙ lt-leb h n l
 
--- to a line in line: n is its next number, and the log's keys are count in w
-module _ (h base count : ℕ) (w : List ℕ) (k : Key) (msg n : ℕ) (a b : Bool) where
-  behind : (x : Bool) → ltb n (base + count) ≡ x → ltb n (base + length (keysIn count w)) ≡ x
-  behind x e = ap (λ (c : ℕ). ltb n (base + c)) (length-tab count (keyIn w)) ∙ e
+-- to a line in line: n is its next number, and the log's keys are f 0, f 1, ..
+module _ (h base count : ℕ) (f : ℕ → Key) (k : Key) (msg n : ℕ) (a b : Bool) where
+  behind : (x : Bool) → ltb n (base + count) ≡ x → ltb n (base + length (tab count f)) ≡ x
+  behind x e = ap (λ (c : ℕ). ltb n (base + c)) (length-tab count f) ∙ e
 
-  pub event-behind : n < base → eventStep h base (keysIn count w) k msg (Rules.InLine n a b) ≡ (Rules.Failed, word failed 0 0)
+  pub event-behind : n < base → eventStep h base (tab count f) k msg (Rules.InLine n a b) ≡ (Rules.Failed, word failed 0 0)
   event-behind l = rw (lt-ltb n base l)
 
-  pub event-in-log : base ≤ n → n < base + count → (there : Key) → there ≡ keyIn w (n - base)
-      → eventStep h base (keysIn count w) k msg (Rules.InLine n a b) ≡ copyStep (same there k) n a b
+  pub event-in-log : base ≤ n → n - base < count → (there : Key) → there ≡ f (n - base)
+      → eventStep h base (tab count f) k msg (Rules.InLine n a b) ≡ copyStep (same there k) n a b
   event-in-log l u there e =
-      let q : getD (keysIn count w) (n - base) noKey ≡ there = getD-tab count (keyIn w) (n - base) noKey (omega arith) ∙ sym e in
-      rw (le-ltb n base l, behind true (lt-ltb n (base + count) u), q)
+      let q : getD (tab count f) (n - base) noKey ≡ there = getD-tab count f (n - base) noKey u ∙ sym e in
+      rw (le-ltb n base l, behind true (lt-ltb n (base + count) (omega arith)), q)
 
-  pub event-no-number : base ≤ n → base + count ≤ n → maxNumber ≤ n
-      → eventStep h base (keysIn count w) k msg (Rules.InLine n a b) ≡ (Rules.InLine n a b, number 9)
-  event-no-number l u m = rw (le-ltb n base l, behind false (le-ltb n (base + count) u), le-leb maxNumber n m)
+  pub event-at-end : base ≤ n → count ≤ n - base → eventStep h base (tab count f) k msg (Rules.InLine n a b) ≡ endStep n a b
+  event-at-end l u = rw (le-ltb n base l, behind false (le-ltb n (base + count) (omega arith)))
 
-  pub event-applies : base ≤ n → base + count ≤ n → n < maxNumber
-      → eventStep h base (keysIn count w) k msg (Rules.InLine n a b) ≡ (Rules.InLine (suc n) a b, word apply 1 0)
-  event-applies l u m = rw (le-ltb n base l, behind false (le-ltb n (base + count) u), lt-leb maxNumber n m)
+pub no-number : (n : ℕ) (a b : Bool) → maxNumber ≤ n → endStep n a b ≡ (Rules.InLine n a b, number 9)
+no-number n a b m = rw (le-leb maxNumber n m)
+
+pub one-number : (n : ℕ) (a b : Bool) → n < maxNumber → endStep n a b ≡ (Rules.InLine (suc n) a b, word apply 1 0)
+one-number n a b m = rw (lt-leb maxNumber n m)
 
 -- ---- a snapshot
 

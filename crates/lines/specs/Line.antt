@@ -86,8 +86,12 @@ pub record Steps (r : Stepped) (x : Rules.Line × Said) : Type 0 where
 abbrev pub copyStep : Bool → ℕ → Bool → Bool → Rules.Line × Said
 copyStep alike n a b = cond alike (Rules.InLine (suc n) a b, word duplicate 0 0) (Rules.InLine n a b, word diverged 0 0)
 
+-- an event to a line in line at the log's end; it steps on, where a number is left
+abbrev pub endStep : ℕ → Bool → Bool → Rules.Line × Said
+endStep n a b = cond (leb maxNumber n) (Rules.InLine n a b, number 9) (Rules.InLine (suc n) a b, word apply 1 0)
+
 -- a book event of key k to a line, over a log of keys ks from base, with held limit h: one that is not in line holds it, or fails
--- where it holds h items or more; one in line steps on, where a number is left
+-- where it holds h items or more; one in line steps on
 abbrev pub eventStep : (h base : ℕ) (ks : List Key) → Key → ℕ → Rules.Line → Rules.Line × Said
 eventStep h base ks k msg (Rules.Waiting is since) =
     cond (leb h (length is)) (Rules.Failed, word failed 0 0) (Rules.Waiting (is ++ (Item.Event k msg ∷ [])) since, word held 0 0)
@@ -95,8 +99,7 @@ eventStep h base ks k msg (Rules.Pending is at since) =
     cond (leb h (length is)) (Rules.Failed, word failed 0 0) (Rules.Pending (is ++ (Item.Event k msg ∷ [])) at since, word held 0 0)
 eventStep h base ks k msg (Rules.InLine n a b) =
     cond (ltb n base) (Rules.Failed, word failed 0 0)
-    (cond (ltb n (base + length ks)) (copyStep (same (getD ks (n - base) noKey) k) n a b)
-    (cond (leb maxNumber n) (Rules.InLine n a b, number 9) (Rules.InLine (suc n) a b, word apply 1 0)))
+    (cond (ltb n (base + length ks)) (copyStep (same (getD ks (n - base) noKey) k) n a b) (endStep n a b))
 eventStep h base ks k msg Rules.Failed = (Rules.Failed, word ignored 0 0)
 
 -- a snapshot of token t: due ends and it is put out; a Waiting line holds it, while its area of h + 8 items has room; else ignored

@@ -4,6 +4,7 @@ use crate::Aging;
 use crate::Line;
 use crate::Stepped;
 use log::Head;
+use log::KeyAt;
 use rules::EventKey;
 use rules::Stamp;
 use rules::Step;
@@ -13,18 +14,19 @@ ghost use Prim.Native.Nat.{ℕ, _+_, _*_, _≤_, _<_, _^_};
 ghost use lib.ListN.{length};
 ghost use Rattle.rules.specs.Quantities.{Key, same};
 ghost use Rattle.rules.specs.Lines as Rules;
-ghost use Rattle.log.specs.Log.{keysIn};
+ghost use Rattle.log.specs.Log.{keysOf, Ring};
 ghost use Rattle.place.specs.Items.{itemsIn};
-ghost use Rattle.lines.specs.Line.{lineOf, Steps, Ages, copyStep, eventStep, snapshotStep, timeStep};
+ghost use Rattle.lines.specs.Line.{lineOf, Steps, Ages, copyStep, endStep, eventStep, snapshotStep, timeStep};
 
 // A line that has not entered line by this age ends.
 const ALIGN_TIMEOUT: u64 = 10_000;
 
 impl Line {
-    // A book event of this key, over a log whose keys lie in `keys`; h: how many items make it fail.
-    pub fn event(self, keys: &[u64], head: Head, h: usize, key: EventKey) -> Stepped
-        requires { ⌜ (2 * head .count ≤ length (now keys)) × (head .base + head .count < 2 ^ 64) ⌝ }
-        ensures { λ r. ⌜ ((w : List ℕ) (msg : ℕ) → Steps r (eventStep h (head .base) (keysIn (head .count) (now (keys .entry))) key msg (lineOf self w))) ⌝ }
+    // A book event of this key, over a log whose keys lie in `keys`, a ring of g; h: how many items make it fail.
+    pub fn event(self, keys: &[u64], g: usize, head: Head, h: usize, key: EventKey) -> Stepped
+        requires { ⌜ (Ring g (head .front) (head .count) (now keys)) × (head .base + head .count < 2 ^ 64) ⌝ }
+        ensures { λ r. ⌜ ((w : List ℕ) (msg : ℕ)
+            → Steps r (eventStep h (head .base) (keysOf g (head .front) (head .count) (now (keys .entry))) key msg (lineOf self w))) ⌝ }
     {
         match self {
             Line::Waiting { items, since } => hold_waiting(items, since, h),
@@ -33,7 +35,7 @@ impl Line {
                 snapshot,
                 since,
             } => hold_pending(items, snapshot, since, h),
-            Line::InLine { next, due0, due1 } => advance(next, due0, due1, keys, head, key),
+            Line::InLine { next, due0, due1 } => advance(next, due0, due1, keys, g, head, key),
             Line::Failed => Stepped {
                 line: self,
                 step: Step::Ignored,
@@ -152,22 +154,38 @@ fn hold_pending(held: usize, snapshot: Stamp, since: u64, h: usize) -> Stepped
 }
 
 // A book event to a line in line.
-fn advance(next: u64, due0: bool, due1: bool, keys: &[u64], head: Head, key: EventKey) -> Stepped
-    requires { ⌜ (2 * head .count ≤ length (now keys)) × (head .base + head .count < 2 ^ 64) ⌝ }
-    ensures { λ r. ⌜ ((h msg : ℕ) → Steps r (eventStep h (head .base) (keysIn (head .count) (now (keys .entry))) key msg (Rules.InLine next due0 due1))) ⌝ }
+fn advance(
+    next: u64,
+    due0: bool,
+    due1: bool,
+    keys: &[u64],
+    g: usize,
+    head: Head,
+    key: EventKey,
+) -> Stepped
+    requires { ⌜ (Ring g (head .front) (head .count) (now keys)) × (head .base + head .count < 2 ^ 64) ⌝ }
+    ensures { λ r. ⌜ ((h msg : ℕ)
+        → Steps r (eventStep h (head .base) (keysOf g (head .front) (head .count) (now (keys .entry))) key msg (Rules.InLine next due0 due1))) ⌝ }
 {
     let base = head.base;
-    let end = base + head.count as u64;
+    let count = head.count;
+    let front = head.front;
     if next < base {
         return Stepped {
             line: Line::Failed,
             step: Step::Failed,
         };
     }
-    if next < end {
-        let there = log::key_in(keys, (next - base) as usize);
-        return in_log(next, due0, due1, there, key);
+    match log_borrowed::view::key_at_slice(keys, base, count, front, g, next) {
+        KeyAt::Key(there) => in_log(next, due0, due1, there, key),
+        KeyAt::Nowhere => at_end(next, due0, due1),
     }
+}
+
+// A book event to a line in line whose next number is the log's end.
+fn at_end(next: u64, due0: bool, due1: bool) -> Stepped
+    ensures { λ r. ⌜ Steps r (endStep next due0 due1) ⌝ }
+{
     if next == u64::MAX {
         return Stepped {
             line: Line::InLine { next, due0, due1 },

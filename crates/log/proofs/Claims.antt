@@ -31,7 +31,7 @@ abbrev pub Cleared : Head → Head → Type 0
 Cleared h r = (g : ℕ) (w : List ℕ) → logOf g w r ≡ clear (logOf g w h)
 
 abbrev pub ClearedCounts : Head → Head → Type 0
-ClearedCounts h r = (r .base ≡ h .base + h .count) × (r .count ≡ 0)
+ClearedCounts h r = (r .base ≡ h .base + h .count) × ((r .count ≡ 0) × (r .front ≡ h .front))
 
 -- a goal P ∗ ⌜φ⌝ ∗ ⌜ψ⌝: both are shown, and P is left
 pub says-both : {M : Type 1} {𝓤 : URA M} {H : Heap 𝓤} {A : Atoms 𝓤} {K : Type 0} {W : Given 𝓤 H A} {Γ : List (Item 𝓤)} → K → {φ ψ : Type 0} {P : SProp 𝓤} → φ → ψ → Step K W Γ (prop P) Γ (prop (sep 𝓤 P (sep 𝓤 (fact 𝓤 φ) (fact 𝓤 ψ))))

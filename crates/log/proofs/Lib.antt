@@ -1,4 +1,6 @@
+pub mod Ring
 pub mod Reading
 pub mod Changes
 pub mod Search
+pub mod Theorems
 pub mod Claims

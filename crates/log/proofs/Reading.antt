@@ -1,31 +1,29 @@
 -- Laws of a log's reading.
 use mathlib.Core.Path.{_≡_, refl, ap, sym, _∙_}
-use mathlib.Core.List.{List}
-use Prim.Native.Nat.{ℕ, _+_, _*_, _≤_, _<_}
-use native.Mathlib.Nat.{zero-add}
+use mathlib.Core.List.{List, map}
+use Prim.Native.Nat.{ℕ, _+_, _-_, _*_, _≤_, _<_}
 use native.Mathlib.Omega.{arith}
 use lib.ListN.{length, getD}
 use Rattle.rules.specs.Quantities.{Key}
 use Rattle.rules.specs.Log.{keys, end}
-use Rattle.words.specs.Words.{tab, part}
+use Rattle.words.specs.Words.{tab}
 use Rattle.words.proofs.Tab.{length-tab, tab-ext, map-tab}
-use Rattle.words.proofs.Parts.{getD-part}
-use Rattle.log.specs.Log.{keyIn, keysIn, logOf, Fit}
+use Rattle.log.specs.Log.{entryPlace, standsAt, keyIn, keysOf, entryIn, logOf}
 use Rattle.log.specs.declared.Head.{Head}
+use Rattle.log.proofs.Ring.{place-inside}
 
 -- the i-th entry of an area
-abbrev pub entryAt : ℕ → List ℕ → ℕ → Key × ℕ
-entryAt g w i = (keyIn w i, getD w (2 * g + i) 0)
+abbrev pub entryAt : ℕ → List ℕ → ℕ → ℕ → Key × ℕ
+entryAt g w front i = entryIn g w (entryPlace g front i)
 
--- keys that stand in a part at the front
-pub keys-part : (n e : ℕ) (w : List ℕ) → 2 * n ≤ e → keysIn n (part 0 e w) ≡ keysIn n w
-keys-part n e w b = tab-ext n (keyIn (part 0 e w)) (keyIn w) (λ i l.
-    rw (getD-part 0 e w (2 * i) (omega arith), getD-part 0 e w (2 * i + 1) (omega arith), zero-add (2 * i), zero-add (2 * i + 1)))
+-- the number base + i is the i-th entry's
+pub stands-entry : (g : ℕ) (h : Head) (i : ℕ) → standsAt g h (h .base + i) ≡ entryPlace g (h .front) i
+stands-entry g h i = let e : h .base + i - h .base ≡ i = omega arith in rw e
 
 module _ (g : ℕ) (w : List ℕ) (h : Head) where
-  pub log-entries : logOf g w h .entries ≡ tab (h .count) (entryAt g w)
+  pub log-entries : logOf g w h .entries ≡ tab (h .count) (entryAt g w (h .front))
   unfolding logOf
-  log-entries = refl
+  log-entries = tab-ext (h .count) (λ i. entryIn g w (standsAt g h (h .base + i))) (entryAt g w (h .front)) (λ i l. ap (entryIn g w) (stands-entry g h i))
 
   pub log-base : logOf g w h .base ≡ h .base
   unfolding logOf
@@ -36,23 +34,19 @@ module _ (g : ℕ) (w : List ℕ) (h : Head) where
   log-last = refl
 
   pub log-length : length (logOf g w h .entries) ≡ h .count
-  unfolding logOf
-  log-length = length-tab (h .count) (entryAt g w)
+  log-length = ap length log-entries ∙ length-tab (h .count) (entryAt g w (h .front))
 
   pub log-end : end (logOf g w h) ≡ h .base + h .count
   unfolding logOf
   log-end = ap (λ (n : ℕ). h .base + n) log-length
 
-  pub log-keys : keys (logOf g w h) ≡ keysIn (h .count) w
-  unfolding logOf
-  log-keys = map-tab (λ (e : Key × ℕ). e .0) (h .count) (entryAt g w)
+  pub log-keys : keys (logOf g w h) ≡ keysOf g (h .front) (h .count) w
+  log-keys = ap (λ (es : List (Key × ℕ)). map (λ e. e .0) es) log-entries ∙ map-tab (λ (e : Key × ℕ). e .0) (h .count) (entryAt g w (h .front))
 
-  -- the keys stand in the area's first 2g words
-  pub log-keys-part : Fit g w h → keys (logOf g w h) ≡ keysIn (h .count) (part 0 (2 * g) w)
-  log-keys-part f = log-keys ∙ sym (keys-part (h .count) (2 * g) w (omega arith))
-
--- words past the entries are not read
-pub log-frame : (g : ℕ) (v w : List ℕ) (h : Head) → ((i : ℕ) → i < 2 * h .count → getD v i 0 ≡ getD w i 0) → ((i : ℕ) → i < h .count → getD v (2 * g + i) 0 ≡ getD w (2 * g + i) 0) → logOf g v h ≡ logOf g w h
-unfolding logOf
-log-frame g v w h ks ts =
-    rw (tab-ext (h .count) (entryAt g v) (entryAt g w) (λ i l. rw (ks (2 * i) (omega arith), ks (2 * i + 1) (omega arith), ts i l)))
+-- words that begin with the same g keys have the same keys
+pub keys-same : (g front count : ℕ) (v w : List ℕ) → front < g → count ≤ g → ((i : ℕ) → i < 2 * g → getD v i 0 ≡ getD w i 0)
+    → keysOf g front count v ≡ keysOf g front count w
+keys-same g front count v w f c e =
+    tab-ext count (λ i. keyIn v (entryPlace g front i)) (λ i. keyIn w (entryPlace g front i)) (λ i l.
+    let p = place-inside g front i f (omega arith) in
+    rw (e (2 * entryPlace g front i) (omega arith), e (2 * entryPlace g front i + 1) (omega arith)))

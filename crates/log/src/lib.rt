@@ -1,13 +1,13 @@
-// The log: an area of 3g words (g keys of two words each, then g times), and a head by value.
+// The log: an area of 3g words (g keys of two words each, then g times) that is a ring, and a head.
 ghost use mathlib.Core.Path.{_≡_};
 ghost use mathlib.Core.List.{List};
-ghost use Prim.Native.Nat.{ℕ, _+_, _-_, _*_, _≤_, _<_, _^_};
-ghost use lib.ListN.{length, drop};
-ghost use Rattle.rules.specs.Quantities.{same, age};
-ghost use Rattle.rules.specs.Log.{keys, keyAt, push, clear, stamp, prune, old};
-ghost use Rattle.rules.specs.Place.{fits};
-ghost use Rattle.log.specs.Log.{keyIn, keysIn, logOf, Fit, put};
-ghost use Rattle.log.specs.Answers.{keyAnswer, matchAnswer, quietStamp};
+ghost use Prim.Native.Nat.{ℕ, _+_, _*_, _≤_, _<_, _^_};
+ghost use lib.ListN.{length, getD};
+ghost use lib.Dec.{leb};
+ghost use Rattle.rules.specs.Quantities.{same, age, logKeep};
+ghost use Rattle.rules.specs.Log.{stamp, prune, old};
+ghost use Rattle.log.specs.Log.{entryPlace, keyIn, logOf, Fit, put};
+ghost use Rattle.log.specs.Answers.{quietStamp};
 use rules::EventKey;
 use rules::Stamp;
 
@@ -16,11 +16,12 @@ const LOG_KEEP: u64 = 10_000;
 // Quiet from this age on.
 const QUIET: u64 = 1_000;
 
-// The number of the first entry, how many entries there are, and last-applied.
+// The number of the first entry, how many entries there are, last-applied, and the first entry's place.
 pub struct Head {
     pub base: u64,
     pub count: usize,
     pub last: Stamp,
+    pub front: usize,
 }
 
 // The key of an event number, where the log has it.
@@ -29,65 +30,46 @@ pub enum KeyAt {
     Nowhere,
 }
 
-// How many held keys match the log, compared until either ends; or two that differ.
+// A key beside the log's of an event number, where the log has it.
 pub enum Matched {
-    Fits(usize),
+    Same,
     Differs,
+    Nowhere,
 }
 
-// Writes entry n: the two words of its key, and its time.
-pub fn put(area: &mut [u64], g: usize, n: usize, key: EventKey, t: u64)
-    requires { ⌜ (length (now area) ≡ 3 * g) × (n < g) ⌝ }
-    ensures { λ _. ⌜ now (area .exit) ≡ put g n key t (now (area .entry)) ⌝ }
+// The place of entry i: front plus i, less g where that reaches g.
+pub fn place(g: usize, front: usize, i: usize) -> usize
+    requires { ⌜ (front < g) × ((i ≤ g) × (2 * g < 2 ^ 64)) ⌝ }
+    ensures { λ r. ⌜ (r ≡ entryPlace g front i) × (r < g) ⌝ }
 {
-    area[2 * n] = key.0;
-    area[2 * n + 1] = key.1;
-    area[2 * g + n] = t;
+    let p = front + i;
+    if p < g { p } else { p - g }
 }
 
-// Adds an entry at the end and sets last-applied.
-pub fn push(area: &mut [u64], g: usize, head: Head, key: EventKey, t: u64) -> Head
-    requires { ⌜ (Fit g (now area) head) × (head .count < g) ⌝ }
-    ensures { λ r. ⌜ logOf g (now (area .exit)) r ≡ push key t (logOf g (now (area .entry)) head) ⌝ }
-    ensures { λ r. ⌜ (Fit g (now (area .exit)) r) × ((r .base ≡ head .base) × (r .count ≡ head .count + 1)) ⌝ }
+// Writes entry i: the two words of its key, and its time.
+pub fn put(area: &mut [u64], g: usize, front: usize, i: usize, key: EventKey, t: u64)
+    requires { ⌜ (length (now area) ≡ 3 * g) × ((front < g) × (i < g)) ⌝ }
+    ensures { λ _. ⌜ now (area .exit) ≡ put g (entryPlace g front i) key t (now (area .entry)) ⌝ }
 {
-    let base = head.base;
-    let n = head.count;
-    put(area, g, n, key, t);
-    Head {
-        base: base,
-        count: n + 1,
-        last: Stamp::At(t),
-    }
-}
-
-// Forgets the entries; the numbers go on.
-pub fn clear(head: Head) -> Head
-    requires { ⌜ head .base + head .count < 2 ^ 64 ⌝ }
-    ensures { λ r. ⌜ ((g : ℕ) (w : List ℕ) → logOf g w r ≡ clear (logOf g w head)) ⌝ }
-    ensures { λ r. ⌜ (r .base ≡ head .base + head .count) × (r .count ≡ 0) ⌝ }
-{
-    let base = head.base;
-    let n = head.count;
-    let last = head.last;
-    Head {
-        base: base + n as u64,
-        count: 0,
-        last: last,
-    }
+    let p = place(g, front, i);
+    area[2 * p] = key.0;
+    area[2 * p + 1] = key.1;
+    area[2 * g + p] = t;
 }
 
 // Sets last-applied.
 pub fn stamp(head: Head, t: u64) -> Head
     ensures { λ r. ⌜ ((g : ℕ) (w : List ℕ) → logOf g w r ≡ stamp t (logOf g w head)) ⌝ }
-    ensures { λ r. ⌜ (r .base ≡ head .base) × (r .count ≡ head .count) ⌝ }
+    ensures { λ r. ⌜ (r .base ≡ head .base) × ((r .count ≡ head .count) × (r .front ≡ head .front)) ⌝ }
 {
     let base = head.base;
     let n = head.count;
+    let front = head.front;
     Head {
         base: base,
         count: n,
         last: Stamp::At(t),
+        front: front,
     }
 }
 
@@ -97,24 +79,6 @@ pub fn key_in(w: &[u64], i: usize) -> EventKey
     ensures { λ r. ⌜ r ≡ keyIn (now (w .entry)) i ⌝ }
 {
     EventKey(w[2 * i], w[2 * i + 1])
-}
-
-// The key of the event with number n.
-pub fn key_at(area: &[u64], g: usize, head: Head, n: u64) -> KeyAt
-    requires { ⌜ Fit g (now area) head ⌝ }
-    ensures { λ r. ⌜ r ≡ keyAnswer (keyAt n (logOf g (now (area .entry)) head)) ⌝ }
-{
-    let base = head.base;
-    let count = head.count;
-    if n < base {
-        return KeyAt::Nowhere;
-    }
-    let i = (n - base) as usize;
-    if i < count {
-        KeyAt::Key(key_in(area, i))
-    } else {
-        KeyAt::Nowhere
-    }
 }
 
 // How long ago a stamp was, 0 if it is later.
@@ -134,15 +98,25 @@ pub fn quiet(stamp: Stamp, t: u64, never: bool) -> bool
     }
 }
 
+// Whether entry i is young enough to stay.
+fn stays(area: &[u64], g: usize, front: usize, i: usize, t: u64) -> bool
+    requires { ⌜ (length (now area) ≡ 3 * g) × ((front < g) × (i < g)) ⌝ }
+    ensures { λ r. ⌜ r ≡ leb (age t (getD (now (area .entry)) (2 * g + entryPlace g front i) 0)) logKeep ⌝ }
+{
+    let at = place(g, front, i);
+    age(t, area[2 * g + at]) <= LOG_KEEP
+}
+
 // How many entries at the front are too old to stay.
 fn count_old(area: &[u64], g: usize, head: Head, t: u64) -> usize
     requires { ⌜ Fit g (now area) head ⌝ }
     ensures { λ r. ⌜ (r ≡ old t (logOf g (now (area .entry)) head .entries)) × (r ≤ head .count) ⌝ }
 {
     let count = head.count;
+    let front = head.front;
     let mut i = 0;
     while i < count {
-        if age(t, area[2 * g + i]) <= LOG_KEEP {
+        if stays(area, g, front, i, t) {
             return i;
         }
         i += 1;
@@ -150,25 +124,22 @@ fn count_old(area: &[u64], g: usize, head: Head, t: u64) -> usize
     i
 }
 
-// Drops the entries at the front that are too old to stay; the numbers of the others stay theirs.
-pub fn prune(area: &mut [u64], g: usize, head: Head, t: u64) -> Head
+// Drops the entries at the front that are too old to stay; the numbers and places of the others stay theirs.
+pub fn prune(area: &[u64], g: usize, head: Head, t: u64) -> Head
     requires { ⌜ (Fit g (now area) head) × (head .base + head .count < 2 ^ 64) ⌝ }
-    ensures { λ r. ⌜ logOf g (now (area .exit)) r ≡ prune t (logOf g (now (area .entry)) head) ⌝ }
-    ensures { λ r. ⌜ (Fit g (now (area .exit)) r) × (r .base + r .count ≡ head .base + head .count) ⌝ }
+    ensures { λ r. ⌜ logOf g (now (area .entry)) r ≡ prune t (logOf g (now (area .entry)) head) ⌝ }
+    ensures { λ r. ⌜ (Fit g (now (area .entry)) r) × (r .base + r .count ≡ head .base + head .count) ⌝ }
 {
     let k = count_old(area, g, head, t);
     let base = head.base;
     let count = head.count;
     let last = head.last;
-    let left = count - k;
-    let e = 2 * g;
-    let f = 3 * g;
-    words::move_down(&mut area[0..e], 2 * k, 2 * left);
-    words::move_down(&mut area[e..f], k, left);
+    let front = place(g, head.front, k);
     Head {
         base: base + k as u64,
-        count: left,
+        count: count - k,
         last: last,
+        front: front,
     }
 }
 
@@ -177,26 +148,4 @@ pub fn same_key(a: EventKey, b: EventKey) -> bool
     ensures { λ r. ⌜ r ≡ same a b ⌝ }
 {
     if a.0 == b.0 { a.1 == b.1 } else { false }
-}
-
-// How many of n held keys match the log from event number p on.
-pub fn match_at(area: &[u64], g: usize, head: Head, held: &[u64], n: usize, p: u64) -> Matched
-    requires { ⌜ (Fit g (now area) head) × ((2 * n ≤ length (now held)) × (head .base ≤ p)) ⌝ }
-    ensures { λ r. ⌜ r ≡ matchAnswer (fits (keysIn n (now (held .entry))) (drop (p - head .base) (keys (logOf g (now (area .entry)) head)))) ⌝ }
-{
-    let base = head.base;
-    let count = head.count;
-    let mut i = (p - base) as usize;
-    let mut k = 0;
-    while k < n {
-        if count <= i {
-            return Matched::Fits(k);
-        }
-        if !same_key(key_in(held, k), key_in(area, i)) {
-            return Matched::Differs;
-        }
-        i += 1;
-        k += 1;
-    }
-    Matched::Fits(k)
 }

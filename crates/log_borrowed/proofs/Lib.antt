@@ -1,2 +1,3 @@
 mod Passing
+mod Lending
 pub mod ViewLaws

@@ -1,83 +1,129 @@
-// A view of the log: its keys' slice and base.
+// A view of the log: its keys' slice and base, how many entries it has, and the front's place.
 ghost use mathlib.Core.Path.{_≡_};
-ghost use Prim.Native.Nat.{_-_, _*_, _≤_};
-ghost use lib.ListN.{length, drop};
 ghost use Rattle.rules.specs.Log.{keyAt};
-ghost use Rattle.rules.specs.Place.{fits};
-ghost use Rattle.log.specs.Log.{keysIn};
-ghost use Rattle.log_borrowed.specs.View.{allKeys, viewOf};
+ghost use Rattle.log.specs.Log.{Ring};
 ghost use Rattle.log.specs.Answers.{keyAnswer, matchAnswer};
+ghost use Rattle.log_borrowed.specs.View.{viewOf};
 use log::KeyAt;
 use log::Matched;
+use rules::EventKey;
 
-// The keys, two words each, all in use, and the number of the first.
+// The words of g keys, the number of the first entry, how many entries there are, and where the first stands.
 pub struct LogView<'a> {
     pub keys: &'a [u64],
     pub base: u64,
+    pub count: usize,
+    pub front: usize,
+    pub g: usize,
 }
 
 // The key of the event with number n.
-pub fn key_in_keys(keys: &[u64], base: u64, n: u64) -> KeyAt
-    ensures { λ r. ⌜ r ≡ keyAnswer (keyAt n (viewOf (now (keys .entry)) base)) ⌝ }
+pub fn key_in_keys(keys: &[u64], base: u64, count: usize, front: usize, g: usize, n: u64) -> KeyAt
+    requires { ⌜ Ring g front count (now keys) ⌝ }
+    ensures { λ r. ⌜ r ≡ keyAnswer (keyAt n (viewOf (now (keys .entry)) base count front g)) ⌝ }
 {
     if n < base {
         return KeyAt::Nowhere;
     }
-    let i = (n - base) as usize;
-    if i < keys.len() / 2 {
-        KeyAt::Key(log::key_in(keys, i))
-    } else {
-        KeyAt::Nowhere
+    if n - base < count as u64 {
+        let p = log::place(g, front, (n - base) as usize);
+        return KeyAt::Key(log::key_in(keys, p));
     }
+    KeyAt::Nowhere
 }
 
 // The same, of a view.
 pub fn key_at<'a>(view: LogView<'a>, n: u64) -> KeyAt
-    ensures { λ r. ⌜ r ≡ keyAnswer (keyAt n (viewOf (now (view .entry .keys)) (view .entry .base))) ⌝ }
+    requires { ⌜ Ring (view .g) (view .front) (view .count) (now (view .keys)) ⌝ }
+    ensures { λ r. ⌜ r ≡ keyAnswer (keyAt n
+        (viewOf (now (view .entry .keys)) (view .entry .base) (view .entry .count) (view .entry .front) (view .entry .g))) ⌝ }
 {
-    key_in_keys(view.keys, view.base, n)
+    let keys = view.keys;
+    let base = view.base;
+    let count = view.count;
+    let front = view.front;
+    let g = view.g;
+    key_in_keys(keys, base, count, front, g, n)
 }
 
-// The same, of the view that is made of a slice.
-pub fn key_at_slice(keys: &[u64], base: u64, n: u64) -> KeyAt
-    ensures { λ r. ⌜ r ≡ keyAnswer (keyAt n (viewOf (now (keys .entry)) base)) ⌝ }
+// The same, of the view that is made of these.
+pub fn key_at_slice(keys: &[u64], base: u64, count: usize, front: usize, g: usize, n: u64) -> KeyAt
+    requires { ⌜ Ring g front count (now keys) ⌝ }
+    ensures { λ r. ⌜ r ≡ keyAnswer (keyAt n (viewOf (now (keys .entry)) base count front g)) ⌝ }
 {
-    key_at(LogView { keys, base }, n)
+    key_at(
+        LogView {
+            keys,
+            base,
+            count,
+            front,
+            g,
+        },
+        n,
+    )
 }
 
-// How many of n held keys match the log from event number p on.
-pub fn match_in_keys(keys: &[u64], base: u64, held: &[u64], n: usize, p: u64) -> Matched
-    requires { ⌜ (2 * n ≤ length (now held)) × (base ≤ p) ⌝ }
-    ensures { λ r. ⌜ r ≡ matchAnswer (fits (keysIn n (now (held .entry))) (drop (p - base) (allKeys (now (keys .entry))))) ⌝ }
+// A key beside that of the event with number n.
+pub fn match_in_keys(
+    keys: &[u64],
+    base: u64,
+    count: usize,
+    front: usize,
+    g: usize,
+    n: u64,
+    key: EventKey,
+) -> Matched
+    requires { ⌜ Ring g front count (now keys) ⌝ }
+    ensures { λ r. ⌜ r ≡ matchAnswer key (keyAt n (viewOf (now (keys .entry)) base count front g)) ⌝ }
 {
-    let count = keys.len() / 2;
-    let mut i = (p - base) as usize;
-    let mut k = 0;
-    while k < n {
-        if count <= i {
-            return Matched::Fits(k);
+    match key_in_keys(keys, base, count, front, g, n) {
+        KeyAt::Key(there) => {
+            if log::same_key(there, key) {
+                Matched::Same
+            } else {
+                Matched::Differs
+            }
         }
-        if !log::same_key(log::key_in(held, k), log::key_in(keys, i)) {
-            return Matched::Differs;
-        }
-        i += 1;
-        k += 1;
+        KeyAt::Nowhere => Matched::Nowhere,
     }
-    Matched::Fits(k)
 }
 
 // The same, of a view.
-pub fn match_at<'a, 'b>(view: LogView<'a>, held: &'b [u64], n: usize, p: u64) -> Matched
-    requires { ⌜ (2 * n ≤ length (now held)) × (view .base ≤ p) ⌝ }
-    ensures { λ r. ⌜ r ≡ matchAnswer (fits (keysIn n (now (held .entry))) (drop (p - view .entry .base) (allKeys (now (view .entry .keys))))) ⌝ }
+pub fn match_at<'a>(view: LogView<'a>, n: u64, key: EventKey) -> Matched
+    requires { ⌜ Ring (view .g) (view .front) (view .count) (now (view .keys)) ⌝ }
+    ensures { λ r. ⌜ r ≡ matchAnswer key (keyAt n
+        (viewOf (now (view .entry .keys)) (view .entry .base) (view .entry .count) (view .entry .front) (view .entry .g))) ⌝ }
 {
-    match_in_keys(view.keys, view.base, held, n, p)
+    let keys = view.keys;
+    let base = view.base;
+    let count = view.count;
+    let front = view.front;
+    let g = view.g;
+    match_in_keys(keys, base, count, front, g, n, key)
 }
 
-// The same, of the view that is made of a slice.
-pub fn match_at_slice(keys: &[u64], base: u64, held: &[u64], n: usize, p: u64) -> Matched
-    requires { ⌜ (2 * n ≤ length (now held)) × (base ≤ p) ⌝ }
-    ensures { λ r. ⌜ r ≡ matchAnswer (fits (keysIn n (now (held .entry))) (drop (p - base) (allKeys (now (keys .entry))))) ⌝ }
+// The same, of the view that is made of these.
+pub fn match_at_slice(
+    keys: &[u64],
+    base: u64,
+    count: usize,
+    front: usize,
+    g: usize,
+    n: u64,
+    key: EventKey,
+) -> Matched
+    requires { ⌜ Ring g front count (now keys) ⌝ }
+    ensures { λ r. ⌜ r ≡ matchAnswer key (keyAt n (viewOf (now (keys .entry)) base count front g)) ⌝ }
 {
-    match_at(LogView { keys, base }, held, n, p)
+    match_at(
+        LogView {
+            keys,
+            base,
+            count,
+            front,
+            g,
+        },
+        n,
+        key,
+    )
 }

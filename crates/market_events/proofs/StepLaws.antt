@@ -17,9 +17,8 @@ use Rattle.rules.specs.Calls.{apply, held, fullNumbers}
 use Rattle.rules.specs.Answers.{Said, number, word}
 use Rattle.rules.specs.Sound.{LineSound}
 use Rattle.rules.proofs.Tests.{leb-true, by-cond}
-use Rattle.words.proofs.Parts.{part-length}
 use Rattle.log.specs.declared.Head.{Head}
-use Rattle.log.specs.Log.{keysIn}
+use Rattle.log.specs.Log.{keysOf, Ring}
 use Rattle.lines.specs.declared.Line.{Line}
 use Rattle.lines.specs.declared.Stepped.{Stepped}
 use Rattle.lines.specs.Line.{lineOf, Steps, eventStep}
@@ -28,7 +27,7 @@ use Rattle.lines.proofs.HeldLaws.{Holds, Leads, refuted, event-holds, event-lea
 use Rattle.store.specs.Store.{limitsOf, headOf, lineCount, keyWords, lineWordsAt, marketOf, Sound}
 use Rattle.store.specs.ConnMoves.{itemsAt}
 use Rattle.store.proofs.MarketLaws.{market-limits, market-base, market-keys}
-use Rattle.store.proofs.EntryLaws.{counts}
+use Rattle.store.proofs.EntryLaws.{counts, ring}
 use Rattle.market_snapshots.proofs.SnapshotLaws.{line-value, line-sound}
 use Rattle.market_events.specs.Events.{stepAt}
 
@@ -54,23 +53,20 @@ module _ (h base : ℕ) (ks : List Key) (k : Key) (msg n : ℕ) where
   event-ends Rules.Failed = λ q. refuted (cc)
 
 module _ {w : List ℕ} {i : ℕ} (s : Sound w) (h : i < lineCount w) (key : Key) where
-  pub step-asks : (head : Head) (ks : List ℕ) → head ≡ headOf w → ks ≡ keyWords w → (2 * head .count ≤ length ks) × (head .base + head .count < 2 ^ 64)
-  step-asks head ks p q =
-      let a = ap length q in
-      let b = part-length 64 (64 + 2 * limitsOf w .G) w (let z = s .sized in omega arith) in
-      let c = counts s in
-      let d = ap (λ (x : Head). x .count) p in
-      let e = ap (λ (x : Head). x .base) p in
-      (omega (arith, a, b, c .entries, d), omega (arith, c .numbers, d, e))
+  pub step-asks : (x : Limits) (head : Head) (ks : List ℕ) → x ≡ limitsOf w → head ≡ headOf w → ks ≡ keyWords w
+      → Ring (x .G) (head .front) (head .count) ks × (head .base + head .count < 2 ^ 64)
+  step-asks x head ks g p q = rw (g, p, q) (ring s, counts s .numbers)
 
-  pub step-said : (head : Head) (ks : List ℕ) (n : ℕ) (self : Line) (r : Stepped) → head ≡ headOf w → ks ≡ keyWords w → n ≡ limitsOf w .H
+  pub step-said : (x : Limits) (head : Head) (ks : List ℕ) (n : ℕ) (self : Line) (r : Stepped)
+      → x ≡ limitsOf w → head ≡ headOf w → ks ≡ keyWords w → n ≡ limitsOf w .H
       → self ≡ headLine (lineWordsAt w i)
-      → ((x : List ℕ) (msg : ℕ) → Steps r (eventStep n (head .base) (keysIn (head .count) ks) key msg (lineOf self x))) → (msg : ℕ)
+      → ((v : List ℕ) (msg : ℕ) → Steps r (eventStep n (head .base) (keysOf (x .G) (head .front) (head .count) ks) key msg (lineOf self v))) → (msg : ℕ)
       → Steps r (stepAt i key msg (marketOf w))
-  step-said head ks n self r p q m e f msg =
+  step-said x head ks n self r g p q m e f msg =
       let limit : n ≡ marketOf w .limits .H = m ∙ ap (λ (l : Limits). l .H) (sym (market-limits w)) in
       let base : head .base ≡ marketOf w .log .base = ap (λ (x : Head). x .base) p ∙ sym (market-base w) in
-      let keyed : keysIn (head .count) ks ≡ keys (marketOf w .log) = (λ j. keysIn (p j .count) (q j)) ∙ sym (market-keys w (counts s .entries)) in
+      let keyed : keysOf (x .G) (head .front) (head .count) ks ≡ keys (marketOf w .log) =
+      (λ j. keysOf (g j .G) (p j .front) (p j .count) (q j)) ∙ sym (market-keys w (counts s .entries) (s .sized .front)) in
       let line : lineOf self (itemsAt w i) ≡ (connAt i (marketOf w)) .line = line-value s h self e in
       subst (Steps r) (λ j. eventStep (limit j) (base j) (keyed j) key msg (line j)) (f (itemsAt w i) msg)
 

@@ -28,17 +28,11 @@ pub fn alignment(s: &[u64], i: usize, quiet: bool) -> Place
         if store::conns::some_due(s) {
             return Place::Nowhere;
         }
+        let g = store::entries::limits(s).G as usize;
         let head = store::entries::head(s);
         let n = store::conns::held(s, i);
         let keys = store::entries::keys(s);
-        return place::alignment(
-            keys,
-            head.count,
-            head.base,
-            store::conns::items(s, i),
-            n,
-            quiet,
-        );
+        return place::alignment(keys, g, head, store::conns::items(s, i), n, quiet);
     }
     Place::Nowhere
 }

@@ -1,5 +1,5 @@
 -- Laws of fits, of the places that are left, and of which of them count, over lists of keys alone.
-use mathlib.Core.Path.{_≡_, refl, ap}
+use mathlib.Core.Path.{_≡_, refl, ap, sym, _∙_}
 use mathlib.Core.List.{List, [], _∷_, _++_, map}
 use mathlib.Core.Option.{Option, none, some}
 use mathlib.Core.Bool.{Bool, true, false, _&&_, _||_}
@@ -9,26 +9,26 @@ use native.Mathlib.Numerals.{add-one}
 use native.Mathlib.Omega.{arith}
 use lib.ListN.{length, drop}
 use lib.Dec.{leb, eqb}
-use borrow.Author.Tests.{eq-eqb, ne-eqb}
+use borrow.Author.Tests.{eqb-true, eqb-false, eq-eqb, ne-eqb}
 use Rattle.rules.specs.Lists.{keep, nil, maybe, count}
 use Rattle.rules.specs.Quantities.{Key, same, alignRun}
 use Rattle.rules.proofs.Tests.{by-cond}
 use Rattle.rules.specs.Place.{Place, fits, places, counts, alignment}
 
-and-false : (b : Bool) → b && false ≡ false
-and-false true = refl
-and-false false = refl
+eqb-turned : (m n : ℕ) → eqb m n ≡ eqb n m
+eqb-turned m n = go (eqb m n) refl
+  where
+    go : (b : Bool) → eqb m n ≡ b → eqb m n ≡ eqb n m
+    go true e = e ∙ sym (eq-eqb n m (sym (eqb-true m n e)))
+    go false e = e ∙ sym (ne-eqb n m (λ q. eqb-false m n e (sym q)))
 
 -- keys by their words
 module _ (a b : Key) where
-  pub same-words : a .0 ≡ b .0 → a .1 ≡ b .1 → same a b ≡ true
-  same-words p q = rw (eq-eqb _ _ p, eq-eqb _ _ q)
+  pub same-turned : same a b ≡ same b a
+  same-turned = rw (eqb-turned (a .0) (b .0), eqb-turned (a .1) (b .1))
 
   pub differ-0 : (a .0 ≡ b .0 → ⊥) → same a b ≡ false
   differ-0 h = rw (ne-eqb _ _ h)
-
-  pub differ-1 : (a .1 ≡ b .1 → ⊥) → same a b ≡ false
-  differ-1 h = simp (ne-eqb (a .1) (b .1) h, and-false)
 
 -- m more matches, where nothing differs
 abbrev pub more : ℕ → Option ℕ → Option ℕ

@@ -1,4 +1,5 @@
--- The two loops of `one_place` over lists and numbers: what each has come to, as a record, and a law for each way through a turn.
+-- The two loops of `one_place`, over the log's keys by their entries and the items' words.
+-- What each has come to, as a record, and a law for each way through a turn.
 use mathlib.Core.Path.{_≡_, refl, sym, ap, _∙_}
 use mathlib.Core.List.{List, [], _∷_, _++_, map}
 use mathlib.Core.Option.{Option, none, some}
@@ -14,26 +15,25 @@ use borrow.Author.Tests.{eq-eqb, ne-eqb}
 use Rattle.rules.specs.Lists.{keep, nil}
 use Rattle.rules.specs.Quantities.{Key, same}
 use Rattle.rules.specs.Place.{fits, places, counts, alignment}
-use Rattle.log.specs.Log.{keyIn, keysIn}
-use Rattle.words.proofs.Tab.{length-tab}
+use Rattle.words.specs.Words.{tab}
+use Rattle.words.proofs.Tab.{length-tab, drop-tab-cons}
 use Rattle.words.proofs.Cases.{below-or}
 use Rattle.place.specs.declared.Place.{Place}
 use Rattle.place.specs.declared.Place.the-variants as Place
 use Rattle.place.specs.Items.{placeOf, Passed}
-use Rattle.words.proofs.Tab.{drop-tab-cons}
 use Rattle.place.proofs.Next.{Stop, Next, heldFrom, itemKey, held-event, held-end}
 use Rattle.place.proofs.Counting as find
 use Rattle.place.proofs.Counting.{more, enough, left, seen}
 
 -- the log's keys, from entry l on
-abbrev pub logFrom : List ℕ → ℕ → ℕ → List Key
-logFrom w n l = drop l (keysIn n w)
+abbrev pub logFrom : (ℕ → Key) → ℕ → ℕ → List Key
+logFrom f n l = drop l (tab n f)
 
-log-step : (w : List ℕ) (n l : ℕ) → l < n → logFrom w n l ≡ keyIn w l ∷ logFrom w n (l + 1)
-log-step w n l h = drop-tab-cons n l (keyIn w) h
+log-step : (f : ℕ → Key) (n l : ℕ) → l < n → logFrom f n l ≡ f l ∷ logFrom f n (l + 1)
+log-step f n l h = drop-tab-cons n l f h
 
-log-end : (w : List ℕ) (n l : ℕ) → n ≤ l → logFrom w n l ≡ []
-log-end w n l h = drop-of-length-le (keysIn n w) {i = l} (omega (arith, length-tab n (keyIn w)))
+log-end : (f : ℕ → Key) (n l : ℕ) → n ≤ l → logFrom f n l ≡ []
+log-end f n l h = drop-of-length-le (tab n f) {i = l} (omega (arith, length-tab n f))
 
 -- the candidates that are left: entries from q on, then item x, the j-th held event, and those behind it
 pub record Ahead (items : List ℕ) (count held first q x j : ℕ) : Type 0 where
@@ -46,17 +46,17 @@ pub record Ahead (items : List ℕ) (count held first q x j : ℕ) : Type 0 wher
   pub rest : drop j (heldFrom items held 0) ≡ heldFrom items held x
 
 -- the places that count
-abbrev pub counting : Bool → List ℕ → ℕ → List ℕ → ℕ → List (ℕ × ℕ) → List (ℕ × ℕ)
-counting quiet keys count items held ps = keep (counts quiet (heldFrom items held 0) (keysIn count keys)) ps
+abbrev pub counting : Bool → (ℕ → Key) → ℕ → List ℕ → ℕ → List (ℕ × ℕ) → List (ℕ × ℕ)
+counting quiet keys count items held ps = keep (counts quiet (heldFrom items held 0) (tab count keys)) ps
 
-abbrev pub all-places : List ℕ → ℕ → List ℕ → ℕ → List (ℕ × ℕ)
-all-places keys count items held = places (heldFrom items held 0) (keysIn count keys)
+abbrev pub all-places : (ℕ → Key) → ℕ → List ℕ → ℕ → List (ℕ × ℕ)
+all-places keys count items held = places (heldFrom items held 0) (tab count keys)
 
 abbrev pub left-places : List ℕ → ℕ → ℕ → ℕ → ℕ → List (ℕ × ℕ)
 left-places items held count q j = left (length (heldFrom items held 0)) count q j
 
 -- the outer loop: `found` is the place that counted so far
-pub record Search (quiet : Bool) (keys : List ℕ) (count base : ℕ) (items : List ℕ) (held first : ℕ) (found : Place) (q x j : ℕ) : Type 0 where
+pub record Search (quiet : Bool) (keys : ℕ → Key) (count base : ℕ) (items : List ℕ) (held first : ℕ) (found : Place) (q x j : ℕ) : Type 0 where
   pub ahead : Ahead items count held first q x j
   pub one : Option (ℕ × ℕ)
   pub is : found ≡ placeOf base one
@@ -64,7 +64,7 @@ pub record Search (quiet : Bool) (keys : List ℕ) (count base : ℕ) (items : L
       ≡ seen one ++ counting quiet keys count items held (left-places items held count q j)
 
 -- the inner loop: the candidate is (cj, start), and the walk has come to item i and entry l
-pub record Walk (quiet : Bool) (keys : List ℕ) (count base : ℕ) (items : List ℕ) (held first : ℕ) (found : Place) (q x j cj start i l : ℕ) : Type 0 where
+pub record Walk (quiet : Bool) (keys : ℕ → Key) (count base : ℕ) (items : List ℕ) (held first : ℕ) (found : Place) (q x j cj start i l : ℕ) : Type 0 where
   pub ahead : Ahead items count held first q x j
   pub one : Option (ℕ × ℕ)
   pub is : found ≡ placeOf base one
@@ -90,26 +90,27 @@ module _ (items : List ℕ) (held j x : ℕ) (e : drop j (heldFrom items held 0)
 abbrev pub firstWord : List ℕ → ℕ → ℕ
 firstWord items first = getD items (4 * first + 1) 0
 
-module _ (quiet : Bool) (keys : List ℕ) (count : ℕ) (items : List ℕ) (held first : ℕ) (h : first < held) (n : Next items held 0 first) where
-  entry-off : (e : ℕ) → e < count → (getD keys (2 * e) 0 ≡ firstWord items first → ⊥) → counts quiet (heldFrom items held 0) (keysIn count keys) (0, e) ≡ false
+module _ (quiet : Bool) (keys : ℕ → Key) (count : ℕ) (items : List ℕ) (held first : ℕ) (h : first < held) (n : Next items held 0 first) where
+  entry-off : (e : ℕ) → e < count → (keys e .0 ≡ firstWord items first → ⊥) → counts quiet (heldFrom items held 0) (tab count keys) (0, e) ≡ false
   entry-off e l d =
       let hs : heldFrom items held 0 ≡ itemKey items first ∷ heldFrom items held (first + 1) =
       ap (map (λ e. e .0)) (n .rest) ∙ held-event items held first h (n .stop)
       in
       let z : fits (heldFrom items held 0) (logFrom keys count e) ≡ none =
-      rw (hs, log-step keys count e l) (find.fits-differ _ _ _ _ (find.differ-0 (itemKey items first) (keyIn keys e) (λ p. d (sym p))))
-      in find.counts-none quiet (heldFrom items held 0) (keysIn count keys) (0, e) z
+      rw (hs, log-step keys count e l) (find.fits-differ _ _ _ _ (find.differ-0 (itemKey items first) (keys e) (λ p. d (sym p))))
+      in find.counts-none quiet (heldFrom items held 0) (tab count keys) (0, e) z
 
-  passed : (j q r : ℕ) → Passed keys count (firstWord items first) q r
+  passed : (j q r : ℕ) → Passed (λ e. keys e .0) count (firstWord items first) q r
       → counting quiet keys count items held (left-places items held count q j) ≡ counting quiet keys count items held (left-places items held count r j)
   passed j q r p = go (r - q) q (omega (arith, p .past)) (p .none)
     where
-      go : (d q : ℕ) → q + d ≡ r → ((e : ℕ) → q ≤ e → e < r → getD keys (2 * e) 0 ≡ firstWord items first → ⊥)
+      go : (d q : ℕ) → q + d ≡ r → ((e : ℕ) → q ≤ e → e < r → keys e .0 ≡ firstWord items first → ⊥)
           → counting quiet keys count items held (left-places items held count q j) ≡ counting quiet keys count items held (left-places items held count r j)
       go zero q e f = let z : q ≡ r = omega arith in ap (λ (x : ℕ). counting quiet keys count items held (left-places items held count x j)) z
       go (suc d) q e f =
           let l : q < count = omega (arith, p .inside) in
-          let s : counting quiet keys count items held (left-places items held count q j) ≡ counting quiet keys count items held (left-places items held count (q + 1) j) =
+          let s : counting quiet keys count items held (left-places items held count q j)
+          ≡ counting quiet keys count items held (left-places items held count (q + 1) j) =
           rw (find.left-first (length (heldFrom items held 0)) count q j l, entry-off q l (f q (omega arith) (omega arith)))
           in s ∙ go d (q + 1) (omega arith) (λ i a b. f i (omega arith) b)
 
@@ -117,19 +118,19 @@ module _ (quiet : Bool) (keys : List ℕ) (count : ℕ) (items : List ℕ) (held
   ahead-of r i a =
       record { head = a .head; head-in = a .head-in; q-in = i; x-in = a .x-in; j-in = a .j-in; stop = a .stop; rest = a .rest }
 
-  pub pass : {base : ℕ} {found : Place} {q x j r : ℕ} → Search quiet keys count base items held first found q x j → Passed keys count (firstWord items first) q r
+  pub pass : {base : ℕ} {found : Place} {q x j r : ℕ} → Search quiet keys count base items held first found q x j → Passed (λ e. keys e .0) count (firstWord items first) q r
       → Search quiet keys count base items held first found r x j
   pass {q = q} {j = j} {r = r} s p =
       record { ahead = ahead-of r (p .inside) (s .ahead); one = s .one; is = s .is; all = s .all ∙ ap (λ z. seen (s .one) ++ z) (passed j q r p) }
 
   pub pass-walk : {base : ℕ} {found : Place} {q x j cj start i l r : ℕ} → Walk quiet keys count base items held first found q x j cj start i l
-      → Passed keys count (firstWord items first) q r → Walk quiet keys count base items held first found r x j cj start i l
+      → Passed (λ e. keys e .0) count (firstWord items first) q r → Walk quiet keys count base items held first found r x j cj start i l
   pass-walk {q = q} {j = j} {cj = cj} {start = start} {r = r} w p =
       record {
         ahead = ahead-of r (p .inside) (w .ahead);
         one = w .one;
         is = w .is;
-        all = w .all ∙ ap (λ z. seen (w .one) ++ cond (counts quiet (heldFrom items held 0) (keysIn count keys) (cj, start)) ((cj, start) ∷ z) z) (passed j q r p);
+        all = w .all ∙ ap (λ z. seen (w .one) ++ cond (counts quiet (heldFrom items held 0) (tab count keys) (cj, start)) ((cj, start) ∷ z) z) (passed j q r p);
         i-in = w .i-in;
         stop = w .stop;
         from = w .from;
@@ -138,7 +139,8 @@ module _ (quiet : Bool) (keys : List ℕ) (count : ℕ) (items : List ℕ) (held
         long = w .long;
       }
 
-pub search-start : (quiet : Bool) (keys : List ℕ) (count base : ℕ) (items : List ℕ) (held first x : ℕ) → first < held → Next items held 0 first → Next items held (first + 1) x
+pub search-start : (quiet : Bool) (keys : ℕ → Key) (count base : ℕ) (items : List ℕ) (held first x : ℕ)
+    → first < held → Next items held 0 first → Next items held (first + 1) x
     → Search quiet keys count base items held first Place.Nowhere 0 x 1
 search-start quiet keys count base items held first x h f n =
     record {
@@ -153,10 +155,10 @@ search-start quiet keys count base items held first x h f n =
       };
       one = none;
       is = refl;
-      all = rw (find.left-all (heldFrom items held 0) (keysIn count keys), length-tab count (keyIn keys));
+      all = rw (find.left-all (heldFrom items held 0) (tab count keys), length-tab count keys);
     }
 
-module _ {quiet : Bool} {keys : List ℕ} {count base : ℕ} {items : List ℕ} {held first : ℕ} {found : Place} {q x j : ℕ}
+module _ {quiet : Bool} {keys : ℕ → Key} {count base : ℕ} {items : List ℕ} {held first : ℕ} {found : Place} {q x j : ℕ}
     (s : Search quiet keys count base items held first found q x j) where
   -- the candidates are all tried
   pub out : count ≤ q → held ≤ x → counting quiet keys count items held (all-places keys count items held) ≡ seen (s .one) ++ []
@@ -170,7 +172,15 @@ module _ {quiet : Bool} {keys : List ℕ} {count base : ℕ} {items : List ℕ} 
   walk-first h =
       let e : heldFrom items held 0 ≡ heldFrom items held first = ap (map (λ e. e .0)) (s .ahead .head .rest) in
       record {
-        ahead = record { head = s .ahead .head; head-in = s .ahead .head-in; q-in = omega arith; x-in = s .ahead .x-in; j-in = s .ahead .j-in; stop = s .ahead .stop; rest = s .ahead .rest };
+        ahead = record {
+          head = s .ahead .head;
+          head-in = s .ahead .head-in;
+          q-in = omega arith;
+          x-in = s .ahead .x-in;
+          j-in = s .ahead .j-in;
+          stop = s .ahead .stop;
+          rest = s .ahead .rest;
+        };
         one = s .one;
         is = s .is;
         all = rw (find.left-first (length (heldFrom items held 0)) count q j h) at (s .all);
@@ -208,17 +218,18 @@ module _ {quiet : Bool} {keys : List ℕ} {count base : ℕ} {items : List ℕ} 
         long = omega arith;
       }
 
-module _ {quiet : Bool} {keys : List ℕ} {count base : ℕ} {items : List ℕ} {held first : ℕ} {found : Place} {q x j cj start i l : ℕ}
+module _ {quiet : Bool} {keys : ℕ → Key} {count base : ℕ} {items : List ℕ} {held first : ℕ} {found : Place} {q x j cj start i l : ℕ}
     (w : Walk quiet keys count base items held first found q x j cj start i l) where
   -- one held event further, to item y
-  pub along : (y : ℕ) → i < held → l < count → getD items (4 * i + 1) 0 ≡ getD keys (2 * l) 0 → getD items (4 * i + 2) 0 ≡ getD keys (2 * l + 1) 0
+  pub along : (y : ℕ) → i < held → l < count → same (keys l) (itemKey items i) ≡ true
       → Next items held (i + 1) y → Walk quiet keys count base items held first found q x j cj start y (l + 1)
-  along y h g d₀ d₁ m =
+  along y h g d m =
       let e = held-event items held i h (w .stop) in
       let r : heldFrom items held (i + 1) ≡ heldFrom items held y = ap (map (λ e. e .0)) (m .rest) in
       let k : (l - start) + 1 ≡ (l + 1) - start = omega (arith, w .from) in
-      let f : more (l - start) (fits (heldFrom items held i) (logFrom keys count l)) ≡ more ((l - start) + 1) (fits (heldFrom items held (i + 1)) (logFrom keys count (l + 1))) =
-      rw (e, log-step keys count l g) (find.fits-same _ _ _ _ (l - start) (find.same-words (itemKey items i) (keyIn keys l) d₀ d₁))
+      let f : more (l - start) (fits (heldFrom items held i) (logFrom keys count l))
+      ≡ more ((l - start) + 1) (fits (heldFrom items held (i + 1)) (logFrom keys count (l + 1))) =
+      rw (e, log-step keys count l g) (find.fits-same _ _ _ _ (l - start) (find.same-turned (itemKey items i) (keys l) ∙ d))
       in
       record {
         ahead = w .ahead;
@@ -234,7 +245,7 @@ module _ {quiet : Bool} {keys : List ℕ} {count base : ℕ} {items : List ℕ} 
       }
 
   abbrev pub Counts : Bool → Type 0
-  Counts b = counts quiet (heldFrom items held 0) (keysIn count keys) (cj, start) ≡ b
+  Counts b = counts quiet (heldFrom items held 0) (tab count keys) (cj, start) ≡ b
 
   -- a candidate that does not count, the first that does, and the second
   pub off : Counts false → Search quiet keys count base items held first found q x j
@@ -247,27 +258,22 @@ module _ {quiet : Bool} {keys : List ℕ} {count base : ℕ} {items : List ℕ} 
       nothing none q = refl
       nothing (some p) q = absurd (let z : _≡_ {A = ℕ} 0 1 = cc in omega arith)
 
-  pub twice : {b n : ℕ} → Counts true → found ≡ Place.At b n → alignment quiet (heldFrom items held 0) (keysIn count keys) ≡ none
+  pub twice : {b n : ℕ} → Counts true → found ≡ Place.At b n → alignment quiet (heldFrom items held 0) (tab count keys) ≡ none
   twice {b} {n} e z = go (w .one) (sym (w .is) ∙ z) (rw e at (w .all))
     where
       go : (o : Option (ℕ × ℕ)) → placeOf base o ≡ Place.At b n
           → counting quiet keys count items held (all-places keys count items held)
           ≡ seen o ++ (cj, start) ∷ counting quiet keys count items held (left-places items held count q j)
-          → alignment quiet (heldFrom items held 0) (keysIn count keys) ≡ none
+          → alignment quiet (heldFrom items held 0) (tab count keys) ≡ none
       go none q all = absurd (let z : _≡_ {A = ℕ} 0 1 = cc in omega arith)
       go (some p) q all = find.two-seen _ _ _ _ _ _ all
 
-  -- a mismatch, in the key's first word or in its second
-  differ : i < held → l < count → same (itemKey items i) (keyIn keys l) ≡ false → Counts false
+  -- a mismatch
+  pub differ : i < held → l < count → same (keys l) (itemKey items i) ≡ false → Counts false
   differ h g d =
-      let z : fits (heldFrom items held i) (logFrom keys count l) ≡ none = rw (held-event items held i h (w .stop), log-step keys count l g) (find.fits-differ _ _ _ _ d) in
-      find.counts-none _ _ _ _ (w .same ∙ ap (more (l - start)) z)
-
-  pub differ-0 : i < held → l < count → (getD items (4 * i + 1) 0 ≡ getD keys (2 * l) 0 → ⊥) → Counts false
-  differ-0 h g d = differ h g (find.differ-0 (itemKey items i) (keyIn keys l) d)
-
-  pub differ-1 : i < held → l < count → (getD items (4 * i + 2) 0 ≡ getD keys (2 * l + 1) 0 → ⊥) → Counts false
-  differ-1 h g d = differ h g (find.differ-1 (itemKey items i) (keyIn keys l) d)
+      let z : fits (heldFrom items held i) (logFrom keys count l) ≡ none =
+      rw (held-event items held i h (w .stop), log-step keys count l g) (find.fits-differ _ _ _ _ (find.same-turned (itemKey items i) (keys l) ∙ d))
+      in find.counts-none _ _ _ _ (w .same ∙ ap (more (l - start)) z)
 
   -- the walk ends after so many matches, at the items' end or at the log's
   abbrev pub Ended : Type 0
@@ -281,7 +287,7 @@ module _ {quiet : Bool} {keys : List ℕ} {count base : ℕ} {items : List ℕ} 
 
   -- the tests on the run say whether it counts
   abbrev pub Settled : Type 0
-  Settled = counts quiet (heldFrom items held 0) (keysIn count keys) (cj, start) ≡ enough quiet (l - start) (eqb l count) (eqb i held)
+  Settled = counts quiet (heldFrom items held 0) (tab count keys) (cj, start) ≡ enough quiet (l - start) (eqb l count) (eqb i held)
 
   pub settled : Ended → Settled
   settled e =
@@ -295,19 +301,26 @@ module _ {quiet : Bool} {keys : List ℕ} {count base : ℕ} {items : List ℕ} 
       let m = ap length (held-end items held i h) in
       eq-eqb (cj + (l - start)) (length (heldFrom items held 0)) (omega (arith, w .long)) ∙ sym (eq-eqb i held (omega (arith, w .i-in))))
       (below-or i held)
-      in find.counts-some quiet (heldFrom items held 0) (keysIn count keys) (cj, start) (l - start) e ∙ rw (u, length-tab count (keyIn keys), all)
+      in find.counts-some quiet (heldFrom items held 0) (tab count keys) (cj, start) (l - start) e ∙ rw (u, length-tab count keys, all)
+
+-- item x at entry 0, whose key has another first word
+pub skip : {quiet : Bool} {keys : ℕ → Key} {count base : ℕ} {items : List ℕ} {held first : ℕ} {found : Place} {q x j : ℕ} (y : ℕ)
+    → Search quiet keys count base items held first found q x j → 0 < count → count ≤ q → x < held → Next items held (x + 1) y
+    → (getD items (4 * x + 1) 0 ≡ keys 0 .0 → ⊥) → Search quiet keys count base items held first found q y (j + 1)
+skip {keys = keys} {items = items} {x = x} y s g h k n d =
+    let w = walk-later s y h k n in off w (differ w k g (find.differ-0 (keys 0) (itemKey items x) (λ p. d (sym p))))
 
 -- the answers
-module _ (quiet : Bool) (keys : List ℕ) (count : ℕ) (items : List ℕ) (held : ℕ) where
-  pub no-log : count ≡ 0 → alignment quiet (heldFrom items held 0) (keysIn count keys) ≡ none
+module _ (quiet : Bool) (keys : ℕ → Key) (count : ℕ) (items : List ℕ) (held : ℕ) where
+  pub no-log : count ≡ 0 → alignment quiet (heldFrom items held 0) (tab count keys) ≡ none
   no-log e = rw e (find.none-logged quiet (heldFrom items held 0))
 
-  pub no-held : (first : ℕ) → held ≤ first → Next items held 0 first → alignment quiet (heldFrom items held 0) (keysIn count keys) ≡ none
-  no-held first h n = rw (ap (map (λ e. e .0)) (n .rest) ∙ held-end items held first h) (find.none-held quiet (keysIn count keys))
+  pub no-held : (first : ℕ) → held ≤ first → Next items held 0 first → alignment quiet (heldFrom items held 0) (tab count keys) ≡ none
+  no-held first h n = rw (ap (map (λ e. e .0)) (n .rest) ∙ held-end items held first h) (find.none-held quiet (tab count keys))
 
-pub search-end : {quiet : Bool} {keys : List ℕ} {count base : ℕ} {items : List ℕ} {held first : ℕ} {found : Place} {q x j : ℕ}
+pub search-end : {quiet : Bool} {keys : ℕ → Key} {count base : ℕ} {items : List ℕ} {held first : ℕ} {found : Place} {q x j : ℕ}
     → Search quiet keys count base items held first found q x j → 0 < count → count ≤ q → held ≤ x
-    → found ≡ placeOf base (alignment quiet (heldFrom items held 0) (keysIn count keys))
+    → found ≡ placeOf base (alignment quiet (heldFrom items held 0) (tab count keys))
 search-end {quiet} {keys} {count} {base} {items} {held} {first} s g h k =
     let hs : heldFrom items held 0 ≡ itemKey items first ∷ heldFrom items held (first + 1) =
     ap (map (λ e. e .0)) (s .ahead .head .rest) ∙ held-event items held first (s .ahead .head-in) (s .ahead .head .stop)

@@ -10,6 +10,8 @@ use Rattle.rules.specs.declared.Item.the-variants as Item
 use Rattle.rules.specs.Quantities.{key}
 use Rattle.rules.specs.Lines.{isSnapshot}
 use Rattle.words.specs.Words.{tab}
+use Rattle.log.specs.Log.{entryPlace, Ring}
+use Rattle.log.specs.declared.Head.{Head}
 use Rattle.place.specs.declared.Place.{Place}
 use Rattle.place.specs.declared.Place.the-variants as Place
 
@@ -44,14 +46,21 @@ abbrev pub placeOf : ℕ → Option (ℕ × ℕ) → Place
 placeOf base none = Place.Nowhere
 placeOf base (some p) = Place.At (p .0) (base + p .1)
 
--- the words hold the keys and the items that are counted, and the log's numbers fit a word
-pub record Counted (keys : List ℕ) (count base : ℕ) (items : List ℕ) (held : ℕ) : Type 0 where
-  pub log : 2 * count ≤ length keys
+-- the words hold the log's keys and the items that are counted, and the log's numbers fit a word
+pub record Counted (g : ℕ) (head : Head) (keys items : List ℕ) (held : ℕ) : Type 0 where
+  pub log : Ring g (head .front) (head .count) keys
   pub line : 4 * held ≤ length items
-  pub numbers : base + count < 2 ^ 64
+  pub numbers : head .base + head .count < 2 ^ 64
 
--- r is from `from` to count, and no entry before it has a key with the first word k
-pub record Passed (keys : List ℕ) (count k from r : ℕ) : Type 0 where
+-- the first word of the key at place p, and of the key of a ring's entry e
+abbrev pub firstAt : List ℕ → ℕ → ℕ
+firstAt keys p = getD keys (2 * p) 0
+
+abbrev pub firstOf : ℕ → ℕ → List ℕ → ℕ → ℕ
+firstOf g front keys e = firstAt keys (entryPlace g front e)
+
+-- r is from `from` to count, and none from `from` to r has the first word k
+pub record Passed (first : ℕ → ℕ) (count k from r : ℕ) : Type 0 where
   pub past : from ≤ r
   pub inside : r ≤ count
-  pub none : (e : ℕ) → from ≤ e → e < r → getD keys (2 * e) 0 ≡ k → ⊥
+  pub none : (e : ℕ) → from ≤ e → e < r → first e ≡ k → ⊥

@@ -1,4 +1,6 @@
 // A line's held items, and the place where a pending line's held events line up with the log.
+use log::Head;
+use log::Matched;
 use rules::EventKey;
 use rules::Item;
 ghost use mathlib.Core.Path.{_≡_};
@@ -12,8 +14,8 @@ ghost use Rattle.rules.specs.Lists.{any, index, nil};
 ghost use Rattle.rules.specs.Lines.{events, eventKeys, isSnapshot, snapshotOf, messageOf};
 ghost use Rattle.rules.specs.Place.{alignment as aligned};
 ghost use Rattle.words.specs.Words.{over};
-ghost use Rattle.log.specs.Log.{keysIn};
-ghost use Rattle.place.specs.Items.{itemIn, itemsIn, isEvent, placeOf, Room, Counted, Passed};
+ghost use Rattle.log.specs.Log.{keysOf, Ring};
+ghost use Rattle.place.specs.Items.{itemIn, itemsIn, isEvent, placeOf, Room, Counted, firstAt, firstOf, Passed};
 
 // The kind word of an event; a snapshot's is one more than its token.
 const EVENT: u64 = 0;
@@ -146,7 +148,7 @@ pub fn holds_token(items: &[u64], held: usize, t: u64) -> bool
 // Passes over entries, eight at a time, while no key among them has the first word k.
 fn pass_eights(keys: &[u64], count: usize, from: usize, k: u64) -> usize
     requires { ⌜ (2 * count ≤ length (now keys)) × (from ≤ count) ⌝ }
-    ensures { λ r. ⌜ Passed (now (keys .entry)) count k from r ⌝ }
+    ensures { λ r. ⌜ Passed (firstAt (now (keys .entry))) count k from r ⌝ }
 {
     let mut i = from;
     while 8 <= count - i {
@@ -180,10 +182,10 @@ fn pass_eights(keys: &[u64], count: usize, from: usize, k: u64) -> usize
     i
 }
 
-// The first entry from `from` on whose key has the first word k; count where there is none.
-fn next_entry(keys: &[u64], count: usize, from: usize, k: u64) -> usize
+// The first key from `from` on that has the first word k; count where there is none.
+fn next_key(keys: &[u64], count: usize, from: usize, k: u64) -> usize
     requires { ⌜ (2 * count ≤ length (now keys)) × (from ≤ count) ⌝ }
-    ensures { λ r. ⌜ Passed (now (keys .entry)) count k from r ⌝ }
+    ensures { λ r. ⌜ Passed (firstAt (now (keys .entry))) count k from r ⌝ }
 {
     let mut i = pass_eights(keys, count, from, k);
     while i < count {
@@ -195,18 +197,35 @@ fn next_entry(keys: &[u64], count: usize, from: usize, k: u64) -> usize
     i
 }
 
-// Where the held events line up with the log: the one place that counts, if exactly one does.
-fn one_place(
-    keys: &[u64],
-    count: usize,
-    base: u64,
-    items: &[u64],
-    held: usize,
-    quiet: bool,
-) -> Place
-    requires { ⌜ Counted (now keys) count base (now items) held ⌝ }
-    ensures { λ r. ⌜ r ≡ placeOf base (aligned quiet (eventKeys (itemsIn held (now (items .entry)))) (keysIn count (now (keys .entry)))) ⌝ }
+// The first entry from `from` on whose key has the first word k; count where there is none.
+// The ring is at most two straight pieces: from the front to the area's end, and from the area's start.
+fn next_entry(keys: &[u64], g: usize, front: usize, count: usize, from: usize, k: u64) -> usize
+    requires { ⌜ (Ring g front count (now keys)) × (from ≤ count) ⌝ }
+    ensures { λ r. ⌜ Passed (firstOf g front (now (keys .entry))) count k from r ⌝ }
 {
+    let ahead = g - front;
+    if count <= ahead {
+        return next_key(keys, front + count, front + from, k) - front;
+    }
+    if ahead <= from {
+        return next_key(keys, count - ahead, from - ahead, k) + ahead;
+    }
+    let p = next_key(keys, g, front + from, k);
+    if p < g {
+        return p - front;
+    }
+    next_key(keys, count - ahead, 0, k) + ahead
+}
+
+// Where the held events line up with the log: the one place that counts, if exactly one does.
+fn one_place(keys: &[u64], g: usize, head: Head, items: &[u64], held: usize, quiet: bool) -> Place
+    requires { ⌜ Counted g head (now keys) (now items) held ⌝ }
+    ensures { λ r. ⌜ r ≡ placeOf (head .base) (aligned quiet (eventKeys (itemsIn held (now (items .entry))))
+        (keysOf g (head .front) (head .count) (now (keys .entry)))) ⌝ }
+{
+    let base = head.base;
+    let count = head.count;
+    let front = head.front;
     if count == 0 {
         return Place::Nowhere;
     }
@@ -216,8 +235,9 @@ fn one_place(
     }
     let mut found = Place::Nowhere;
     // The next candidate: the first held event at entry q; past the log's end the j-th, item x, at entry 0.
-    // An entry where the first words of the keys differ is no candidate.
-    let mut q = next_entry(keys, count, 0, items[4 * first + 1]);
+    // Where the first words of the two keys differ there is no candidate.
+    let lead = keys[2 * front];
+    let mut q = next_entry(keys, g, front, count, 0, items[4 * first + 1]);
     let mut x = next_event(items, held, first + 1);
     let mut j: usize = 1;
     'places: loop {
@@ -226,7 +246,7 @@ fn one_place(
         let mut l = q;
         let mut cj: usize = 0;
         if q < count {
-            q = next_entry(keys, count, q + 1, items[4 * first + 1]);
+            q = next_entry(keys, g, front, count, q + 1, items[4 * first + 1]);
         } else {
             if x >= held {
                 break 'places;
@@ -236,20 +256,29 @@ fn one_place(
             cj = j;
             x = next_event(items, held, x + 1);
             j += 1;
+            if items[4 * i + 1] != lead {
+                continue 'places;
+            }
         }
         let start = l;
         while i < held {
-            if l >= count {
-                break;
+            let key = EventKey(items[4 * i + 1], items[4 * i + 2]);
+            match log_borrowed::view::match_at_slice(
+                keys,
+                base,
+                count,
+                front,
+                g,
+                base + l as u64,
+                key,
+            ) {
+                Matched::Same => {
+                    l += 1;
+                    i = next_event(items, held, i + 1);
+                }
+                Matched::Differs => continue 'places,
+                Matched::Nowhere => break,
             }
-            if items[4 * i + 1] != keys[2 * l] {
-                continue 'places;
-            }
-            if items[4 * i + 2] != keys[2 * l + 1] {
-                continue 'places;
-            }
-            l += 1;
-            i = next_event(items, held, i + 1);
         }
         let run = l - start >= ALIGN_RUN;
         let level = quiet & (l == count) & (i == held);
@@ -289,20 +318,21 @@ fn holds_run(items: &[u64], held: usize) -> bool
 // The same; with fewer events held than make a place count, only a quiet market has a place.
 pub fn alignment(
     keys: &[u64],
-    count: usize,
-    base: u64,
+    g: usize,
+    head: Head,
     items: &[u64],
     held: usize,
     quiet: bool,
 ) -> Place
-    requires { ⌜ Counted (now keys) count base (now items) held ⌝ }
-    ensures { λ r. ⌜ r ≡ placeOf base (aligned quiet (eventKeys (itemsIn held (now (items .entry)))) (keysIn count (now (keys .entry)))) ⌝ }
+    requires { ⌜ Counted g head (now keys) (now items) held ⌝ }
+    ensures { λ r. ⌜ r ≡ placeOf (head .base) (aligned quiet (eventKeys (itemsIn held (now (items .entry))))
+        (keysOf g (head .front) (head .count) (now (keys .entry)))) ⌝ }
 {
     if quiet {
-        return one_place(keys, count, base, items, held, quiet);
+        return one_place(keys, g, head, items, held, quiet);
     }
     if holds_run(items, held) {
-        return one_place(keys, count, base, items, held, quiet);
+        return one_place(keys, g, head, items, held, quiet);
     }
     Place::Nowhere
 }

@@ -6,14 +6,14 @@ use Prim.Native.Nat.{ℕ, _≤_}
 use lib.Dec.{eqb}
 use Rattle.rules.specs.Lines.{eventKeys}
 use Rattle.rules.specs.Place.{alignment}
-use Rattle.log.specs.Log.{keysIn}
+use Rattle.log.specs.Log.{keysOf}
 use Rattle.place.specs.declared.Place.{Place}
 use Rattle.place.specs.declared.Place.the-variants as Place
 use Rattle.place.specs.Items.{itemsIn, placeOf}
 
--- a log p q r s p q r s
+-- a log p q r s p q r s, in a ring of 8 from place 6 on
 abbrev pub logWords : List ℕ
-logWords = 1 ∷ 1 ∷ 1 ∷ 2 ∷ 2 ∷ 1 ∷ 2 ∷ 2 ∷ 1 ∷ 1 ∷ 1 ∷ 2 ∷ 2 ∷ 1 ∷ 2 ∷ 2 ∷ []
+logWords = 2 ∷ 1 ∷ 2 ∷ 2 ∷ 1 ∷ 1 ∷ 1 ∷ 2 ∷ 2 ∷ 1 ∷ 2 ∷ 2 ∷ 1 ∷ 1 ∷ 1 ∷ 2 ∷ []
 
 -- a line's items: the events p q r s t
 abbrev pub lineWords : List ℕ
@@ -21,7 +21,7 @@ lineWords = 0 ∷ 1 ∷ 1 ∷ 5 ∷ 0 ∷ 1 ∷ 2 ∷ 6 ∷ 0 ∷ 2 ∷ 1 ∷ 7 
 
 -- the place of the line's first `held` items in the log's first `count` entries, whose base is 0
 abbrev pub placeAt : ℕ → ℕ → Place
-placeAt count held = placeOf 0 (alignment false (eventKeys (itemsIn held lineWords)) (keysIn count logWords))
+placeAt count held = placeOf 0 (alignment false (eventKeys (itemsIn held lineWords)) (keysOf 8 6 count logWords))
 
 -- such a place is the one that the rules give
 pub record Point (count held : ℕ) (want : Place) : Type 0 where

@@ -1,5 +1,7 @@
 // The starred points about places, proved and run: a place counts with four matches, and where two count there is none.
+use log::Head;
 use place::Place;
+use rules::Stamp;
 ghost use mathlib.Core.Path.{_≡_};
 ghost use Prim.Native.Nat.{_≤_};
 ghost use Rattle.place_points.specs.Points.{placeAt, samePlace, Point};
@@ -9,9 +11,15 @@ fn place_at(count: usize, held: usize) -> Place
     requires { ⌜ (count ≤ 8) × (held ≤ 5) ⌝ }
     ensures { λ r. ⌜ r ≡ placeAt count held ⌝ }
 {
-    let log: [u64; 16] = [1, 1, 1, 2, 2, 1, 2, 2, 1, 1, 1, 2, 2, 1, 2, 2];
+    let log: [u64; 16] = [2, 1, 2, 2, 1, 1, 1, 2, 2, 1, 2, 2, 1, 1, 1, 2];
     let line: [u64; 20] = [0, 1, 1, 5, 0, 1, 2, 6, 0, 2, 1, 7, 0, 2, 2, 8, 0, 3, 1, 9];
-    place::alignment(&log, count, 0, &line, held, false)
+    let head = Head {
+        base: 0,
+        count,
+        last: Stamp::Never,
+        front: 6,
+    };
+    place::alignment(&log, 8, head, &line, held, false)
 }
 
 fn same_place(a: Place, b: Place) -> bool

@@ -16,7 +16,7 @@ use Rattle.rules.specs.Answers.{number, word}
 use Rattle.rules.specs.Sound as Rules
 use Rattle.rules.proofs.Tests.{lt-ltb, le-ltb}
 use Rattle.rows.specs.Tables.{size}
-use Rattle.store.specs.Store.{layout, layoutOf, limitsOf, lineCount, usedOf, marketOf, Sound}
+use Rattle.store.specs.Store.{layout, layoutOf, limitsOf, headOf, lineCount, usedOf, marketOf, Sound}
 use Rattle.store.proofs.MarketLaws.{market-limits, lines-count, key-count, pair-count}
 use Rattle.sound.proofs.RangeLaws.{bounds}
 use Rattle.promise.specs.Meets.{MeetsSetup}
@@ -32,8 +32,9 @@ module _ (l : Limits) (start : ℕ) (w : List ℕ) where
       }
 
   -- words that mean a fresh market
-  empty-sound : inRange l ≡ true → start ≤ maxNumber → (v : List ℕ) → marketOf v ≡ fresh l start → layoutOf v ≡ layout → wordsNeeded l ≤ length v → Sound v
-  empty-sound e h v m y n =
+  empty-sound : inRange l ≡ true → start ≤ maxNumber → (v : List ℕ) → marketOf v ≡ fresh l start → layoutOf v ≡ layout → headOf v .front ≡ 0
+      → wordsNeeded l ≤ length v → Sound v
+  empty-sound e h v m y f n =
       let b = bounds l e in
       let q : limitsOf v ≡ l = sym (market-limits v) ∙ ap (λ (x : Market). x .limits) m in
       let none : lineCount v ≡ 0 = sym (lines-count v) ∙ ap (λ (x : Market). length (x .lines)) m in
@@ -50,6 +51,7 @@ module _ (l : Limits) (start : ℕ) (w : List ℕ) where
           events = rw (limit (λ x. x .G)) (b .events);
           keys = rw (limit (λ x. x .C)) (b .keys);
           pairs = rw (limit (λ x. x .D)) (b .pairs);
+          front = omega (arith, f, limit (λ x. x .G), b .event);
           newKeys = omega (arith, keys);
           newPairs = omega (arith, pairs);
         };
@@ -59,12 +61,12 @@ module _ (l : Limits) (start : ℕ) (w : List ℕ) where
 
   -- ---- what setup meets
 
-  pub setup-done : inRange l ≡ true → start ≤ maxNumber → wordsNeeded l ≤ length w → (v : List ℕ) → length v ≡ length w → (marketOf v ≡ fresh l start) × (layoutOf v ≡ layout)
-      → MeetsSetup l start w (word done 0 0) v
+  pub setup-done : inRange l ≡ true → start ≤ maxNumber → wordsNeeded l ≤ length w → (v : List ℕ) → length v ≡ length w
+      → (marketOf v ≡ fresh l start) × ((layoutOf v ≡ layout) × (headOf v .front ≡ 0)) → MeetsSetup l start w (word done 0 0) v
   unfolding setup
   setup-done e h n v k m =
       let t : ltb (length w) (wordsNeeded l) ≡ false = le-ltb _ _ n in
-      record { answered = rw (e, t); words = rw (e, t) (m .0, empty-sound e h v (m .0) (m .1) (rw k n), k) }
+      record { answered = rw (e, t); words = rw (e, t) (m .0, empty-sound e h v (m .0) (m .1 .0) (m .1 .1) (rw k n), k) }
 
   pub setup-short : inRange l ≡ true → length w < wordsNeeded l → MeetsSetup l start w (number 1) w
   unfolding setup

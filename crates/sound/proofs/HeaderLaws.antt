@@ -23,7 +23,7 @@ use Rattle.store.proofs.MarketLaws.{market-prints}
 use Rattle.sound.specs.Parts.{FewNew, Ranged}
 use Rattle.sound.proofs.RangeLaws.{bounds}
 
--- ---- layout, limits and length
+-- ---- layout, limits, length and front
 
 module _ (w : List ℕ) (l : Limits) (q : l ≡ limitsOf w) where
   pub outside : inRange l ≡ false → Ranged w → ⊥
@@ -32,11 +32,14 @@ module _ (w : List ℕ) (l : Limits) (q : l ≡ limitsOf w) where
   pub short : length w < wordsNeeded l → Ranged w → ⊥
   short h r = let n : wordsNeeded l ≡ wordsNeeded (limitsOf w) = ap wordsNeeded q in omega (arith, r .sized .long)
 
+  pub beyond : l .G ≤ headOf w .front → Ranged w → ⊥
+  beyond h r = omega (arith, ap (λ (x : Limits). x .G) q, r .sized .front)
+
   pub crowded : (FewNew w → ⊥) → Ranged w → ⊥
   crowded n r = n (record { keys = r .sized .newKeys; pairs = r .sized .newPairs })
 
-  pub ranged : 64 ≤ length w → layoutOf w ≡ layout → inRange l ≡ true → wordsNeeded l ≤ length w → FewNew w → Ranged w
-  ranged h v e long few =
+  pub ranged : 64 ≤ length w → layoutOf w ≡ layout → inRange l ≡ true → wordsNeeded l ≤ length w → headOf w .front < l .G → FewNew w → Ranged w
+  ranged h v e long below few =
       let range : inRange (limitsOf w) ≡ true = ap inRange (sym q) ∙ e in
       let b = bounds (limitsOf w) range in
       let n : wordsNeeded l ≡ wordsNeeded (limitsOf w) = ap wordsNeeded q in
@@ -50,6 +53,7 @@ module _ (w : List ℕ) (l : Limits) (q : l ≡ limitsOf w) where
           events = b .events;
           keys = b .keys;
           pairs = b .pairs;
+          front = omega (arith, ap (λ (x : Limits). x .G) q);
           newKeys = few .keys;
           newPairs = few .pairs;
         };

@@ -11,6 +11,7 @@ use Rattle.rules.proofs.Tests.{and-true-left, and-true-right, leb-true}
 pub record Bounds (l : Limits) : Type 0 where
   pub lines : l .L ≤ 16
   pub held : l .H ≤ 5000
+  pub event : 1 ≤ l .G
   pub events : l .G ≤ 1048576
   pub keys : l .C ≤ 65536
   pub pairs : l .D ≤ 65536
@@ -31,6 +32,7 @@ bounds l e =
     record {
       lines = hL;
       held = leb-true (and-true-right (leb 1 (l .H)) (leb (l .H) 5000) (and-true-right a b e₂));
+      event = leb-true (and-true-left (leb 1 (l .G)) (leb (l .G) 1048576) (and-true-right (a && b) c e₃));
       events = leb-true (and-true-right (leb 1 (l .G)) (leb (l .G) 1048576) (and-true-right (a && b) c e₃));
       keys = leb-true (and-true-right (leb 1 (l .C)) (leb (l .C) 65536) (and-true-right (a && b && c) d e₄));
       pairs = leb-true (and-true-right (leb 1 (l .D)) (leb (l .D) 65536) (and-true-right (a && b && c && d) f e));

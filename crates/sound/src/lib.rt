@@ -52,7 +52,8 @@ fn few_new(s: &[u64]) -> bool
     true
 }
 
-// Whether the words are of this layout, with few new rows, and long enough for their limits, which are in range.
+// Whether the words are of this layout, with the front below G, with few new rows, and long enough for their limits, which are
+// in range.
 fn sized(s: &[u64]) -> bool
     ensures { λ r. ⌜ Says r (Ranged (now (s .entry))) ⌝ }
 {
@@ -67,6 +68,9 @@ fn sized(s: &[u64]) -> bool
         return false;
     }
     if (s.len() as u64) < words_needed(l) {
+        return false;
+    }
+    if l.G <= store::entries::front(s) as u64 {
         return false;
     }
     few_new(s)

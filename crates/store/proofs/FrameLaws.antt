@@ -21,14 +21,12 @@ use Rattle.prints.specs.declared.Used.{Used}
 use Rattle.prints.specs.Area.{printsOf}
 use Rattle.lines.specs.Area.{connOf}
 use Rattle.lines.proofs.AreaLaws.{stamp-back}
-use Rattle.store.specs.Store.{layoutOf, limitsOf, headIn, headWords, headOf, lineCount, usedOf, putUsed, tablesAt, linesAt, lineWidth, lineStart, logWords, tableWords, lineWordsAt, connIn, marketOf, Sized, KindsKnown, Sound}
+use Rattle.store.specs.Store.{layoutOf, limitsOf, headIn, headWords, headOf, putHead, lineCount, usedOf, putUsed, tablesAt, linesAt, lineWidth, lineStart}
+use Rattle.store.specs.Store.{logWords, tableWords, lineWordsAt, connIn, marketOf, Sized, KindsKnown, Sound}
 use Rattle.store.specs.Moves.{Moved}
 use Rattle.store.proofs.MarketLaws.{market-limits, market-by}
 
--- ---- the words of a store after part of them came back: the log's head, the log's words, the tables' words
-
-abbrev pub putHead : Head → List ℕ → List ℕ
-putHead h w = back 5 9 (headWords h) w
+-- ---- the words of a store after part of them came back: the log's words, the tables' words
 
 abbrev pub putLog : List ℕ → List ℕ → List ℕ
 putLog ys w = back 64 (tablesAt (limitsOf w)) ys w
@@ -55,10 +53,19 @@ drop-ext : (a : ℕ) (v w : List ℕ) → length v ≡ length w → ((i : ℕ) �
 drop-ext a v w e h =
     ext-getD 0 (drop a v) (drop a w) (simp length-drop (omega arith)) (λ i l. getD-drop a v i 0 ∙ h (a + i) (omega arith) ∙ sym (getD-drop a w i 0))
 
--- a store of the same layout, limits and length, and few new rows, is sized too
+-- the rows in use, by words that are the same
+pub used-same : (v w : List ℕ) → ((i : ℕ) → 10 ≤ i → i < 15 → getD v i 0 ≡ getD w i 0) → usedOf v ≡ usedOf w
+used-same v w h =
+    let keys = h 10 (omega arith) (omega arith) in
+    let counts = h 11 (omega arith) (omega arith) in
+    let newKeys = h 13 (omega arith) (omega arith) in
+    let newCounts = h 14 (omega arith) (omega arith) in
+    λ j. record { keys = record { old = keys j; new = newKeys j }; counts = record { old = counts j; new = newCounts j } }
+
+-- a store of the same layout, limits and length, with its front below G and few new rows, is sized too
 pub sized-same : (v w : List ℕ) → layoutOf v ≡ layoutOf w → limitsOf v ≡ limitsOf w → length v ≡ length w
-    → usedOf v .keys .new ≤ mostNew → usedOf v .counts .new ≤ mostNew → Sized w → Sized v
-sized-same v w y q n few few′ s =
+    → headOf v .front < limitsOf w .G → usedOf v .keys .new ≤ mostNew → usedOf v .counts .new ≤ mostNew → Sized w → Sized v
+sized-same v w y q n below few few′ s =
     let limits : (f : Limits → ℕ) → f (limitsOf v) ≡ f (limitsOf w) = λ f. ap f q in
     record {
       header = rw n (s .header);
@@ -69,6 +76,7 @@ sized-same v w y q n few few′ s =
       events = rw (limits (λ l. l .G)) (s .events);
       keys = rw (limits (λ l. l .C)) (s .keys);
       pairs = rw (limits (λ l. l .D)) (s .pairs);
+      front = rw (limits (λ l. l .G)) below;
       newKeys = few;
       newPairs = few′;
     }
@@ -82,27 +90,28 @@ module _ {a e : ℕ} {w v : List ℕ} (o : Only a e w v) (below : 5 ≤ a) where
   pub limits-stay : limitsOf v ≡ limitsOf w
   limits-stay = λ j. record { L = low 0 (omega arith) j; H = low 1 (omega arith) j; G = low 2 (omega arith) j; C = low 3 (omega arith) j; D = low 4 (omega arith) j }
 
-  pub sized-stay : ((i : ℕ) → 10 ≤ i → i < 15 → a ≤ i → i < e → ⊥) → Sized w → Sized v
-  sized-stay apart z =
-      let keys : getD v 13 0 ≡ getD w 13 0 = o .others 13 (apart 13 (omega arith) (omega arith)) in
-      let pairs : getD v 14 0 ≡ getD w 14 0 = o .others 14 (apart 14 (omega arith) (omega arith)) in
-      sized-same v w (o .others 12 (apart 12 (omega arith) (omega arith))) limits-stay (o .size) (omega (arith, z .newKeys)) (omega (arith, z .newPairs)) z
+  pub sized-stay : 16 ≤ a → Sized w → Sized v
+  sized-stay l z =
+      let word : (i : ℕ) → i < 16 → getD v i 0 ≡ getD w i 0 = λ i m. o .others i (λ p q. omega arith) in
+      sized-same v w (word 12 (omega arith)) limits-stay (o .size)
+      (omega (arith, word 15 (omega arith), z .front))
+      (omega (arith, word 13 (omega arith), z .newKeys))
+      (omega (arith, word 14 (omega arith), z .newPairs))
+      z
 
   -- a part that the change leaves
   pub part-stays : (b f : ℕ) → f ≤ length w → ((i : ℕ) → b ≤ i → i < f → a ≤ i → i < e → ⊥) → part b f v ≡ part b f w
   part-stays b f l apart = part-ext b f v w (o .size) l (λ i p q. o .others i (apart i p q))
 
   module _ (z : Sized w) where
-    pub head-stays : 9 ≤ a → headOf v ≡ headOf w
-    head-stays l = ap headIn (part-stays 5 9 (omega arith) (λ i p q r s. omega arith))
+    pub head-stays : 9 ≤ a → (a ≤ 15 → 15 < e → ⊥) → headOf v ≡ headOf w
+    head-stays l n =
+        let words = part-stays 5 9 (omega arith) (λ i p q r s. omega arith) in
+        let front = o .others 15 n in
+        λ j. headIn (words j) (front j)
 
-    pub used-stays : ((i : ℕ) → 10 ≤ i → i < 15 → a ≤ i → i < e → ⊥) → usedOf v ≡ usedOf w
-    used-stays apart =
-        let keys = o .others 10 (apart 10 (omega arith) (omega arith)) in
-        let counts = o .others 11 (apart 11 (omega arith) (omega arith)) in
-        let newKeys = o .others 13 (apart 13 (omega arith) (omega arith)) in
-        let newCounts = o .others 14 (apart 14 (omega arith) (omega arith)) in
-        λ j. record { keys = record { old = keys j; new = newKeys j }; counts = record { old = counts j; new = newCounts j } }
+    pub used-stays : 15 ≤ a → usedOf v ≡ usedOf w
+    used-stays l = used-same v w (λ i p q. o .others i (λ r s. omega arith))
 
     pub log-stays : ((i : ℕ) → 64 ≤ i → i < tablesAt (limitsOf w) → a ≤ i → i < e → ⊥) → logWords v ≡ logWords w
     log-stays apart = ap (λ (l : Limits). part 64 (tablesAt l) v) limits-stay ∙ part-stays 64 (tablesAt (limitsOf w)) (omega arith) apart
@@ -111,15 +120,12 @@ module _ {a e : ℕ} {w v : List ℕ} (o : Only a e w v) (below : 5 ≤ a) where
     tables-stay apart = ap (λ (l : Limits). part (tablesAt l) (linesAt l) v) limits-stay ∙ part-stays (tablesAt (limitsOf w)) (linesAt (limitsOf w)) (omega arith) apart
 
     -- ---- a change neither in the lines' words nor in their count
-    module _ (one : a ≤ 9 → 9 < e → ⊥) (ends : e ≤ linesAt (limitsOf w)) (sized : Sized v) where
+    module _ (count-stays : lineCount v ≡ lineCount w) (ends : e ≤ linesAt (limitsOf w)) (sized : Sized v) where
       line-stays : (i : ℕ) → lineWordsAt v i ≡ lineWordsAt w i
       line-stays i =
           let b = lineStart (limitsOf w) i in
           ap (λ (l : Limits). part (lineStart l i) (lineStart l i + lineWidth l) v) limits-stay
           ∙ ap (take (b + lineWidth (limitsOf w) - b)) (drop-ext b v w (o .size) (λ j l. o .others j (λ p q. omega arith)))
-
-      count-stays : lineCount v ≡ lineCount w
-      count-stays = o .others 9 one
 
       lines-stay : tab (lineCount v) (connIn v) ≡ tab (lineCount w) (connIn w)
       lines-stay =
@@ -156,22 +162,50 @@ moved-sound s a r = record { sized = a .sized; kinds = a .kinds (s .kinds); mark
 
 -- ---- the head's words come back as those of h
 
-head-back : (h : Head) → headIn (headWords h) ≡ h
-head-back h = λ j. record { base = h .base; count = h .count; last = stamp-back (h .last) j }
+head-back : (h : Head) → headIn (headWords h) (h .front) ≡ h
+head-back h = λ j. record { base = h .base; count = h .count; last = stamp-back (h .last) j; front = h .front }
 
-module _ (w : List ℕ) (h : Head) (z : Sized w) where
+module _ (w : List ℕ) (h : Head) (z : Sized w) (below : h .front < limitsOf w .G) where
   head-loan : Loan 5 9 (headWords h) w
   head-loan = record { kept = refl; start = omega arith; inside = omega arith }
+
+  head-other : (i : ℕ) → (5 ≤ i → i < 9 → ⊥) → (i ≡ 15 → ⊥) → getD (putHead h w) i 0 ≡ getD w i 0
+  head-other i n m = getD-set-other (back 5 9 (headWords h) w) 15 i (h .front) 0 m ∙ only-back head-loan .others i n
+
+  only-head : Only 5 16 w (putHead h w)
+  only-head =
+      record {
+        size = simp length-set (only-back head-loan .size);
+        others = λ i n. head-other i (λ p q. n p (omega arith)) (λ q. n (omega arith) (omega arith));
+      }
+
+  front-put : headOf (putHead h w) .front ≡ h .front
+  front-put = getD-set-same (back 5 9 (headWords h) w) 15 (h .front) 0 (omega (arith, only-back head-loan .size))
+
+  head-put : headOf (putHead h w) ≡ h
+  head-put =
+      let v = back 5 9 (headWords h) w in
+      let words : part 5 9 (putHead h w) ≡ headWords h =
+      part-ext 5 9 (putHead h w) v (simp length-set) (omega (arith, only-back head-loan .size)) (λ i p q. getD-set-other v 15 i (h .front) 0 (omega arith))
+      ∙ part-same 5 9 (headWords h) w head-loan in
+      (λ j. headIn (words j) (front-put j)) ∙ head-back h
 
   pub head-moved : Moved w (putHead h w) (withLog (logOf (limitsOf w .G) (logWords w) h) (marketOf w))
   unfolding marketOf
   head-moved =
-      let o = only-back head-loan in
-      moved-to o (omega arith) z (λ p q. omega arith) (omega arith) (sized-stay o (omega arith) (λ i p q r s. omega arith) z)
+      let o = only-head in
+      let word : (i : ℕ) → 9 ≤ i → i < 15 → getD (putHead h w) i 0 ≡ getD w i 0 = λ i p q. head-other i (λ r s. omega arith) (omega arith) in
+      let used = used-same (putHead h w) w (λ i p q. word i (omega arith) q) in
+      moved-to o (omega arith) z (word 9 (omega arith) (omega arith)) (omega arith)
+      (sized-same (putHead h w) w (word 12 (omega arith) (omega arith)) (limits-stay o (omega arith)) (o .size)
+      (rw front-put below)
+      (omega (arith, word 13 (omega arith) (omega arith), z .newKeys))
+      (omega (arith, word 14 (omega arith) (omega arith), z .newPairs))
+      z)
       (log-stays o (omega arith) z (λ i p q r s. omega arith))
-      (ap headIn (part-same 5 9 (headWords h) w head-loan) ∙ head-back h)
+      head-put
       (tables-stay o (omega arith) z (λ i p q r s. omega arith))
-      (used-stays o (omega arith) z (λ i p q r s. omega arith))
+      used
 
 -- ---- the log's words come back as ys
 module _ (w ys : List ℕ) (z : Sized w) (kept : length ys ≡ 3 * limitsOf w .G) where
@@ -188,11 +222,11 @@ module _ (w ys : List ℕ) (z : Sized w) (kept : length ys ≡ 3 * limitsOf w .G
   unfolding marketOf
   log-moved =
       let o = only-back log-loan in
-      moved-to o (omega arith) z (λ p q. omega arith) (omega arith) (sized-stay o (omega arith) (λ i p q r s. omega arith) z)
+      moved-to o (omega arith) z (o .others 9 (λ p q. omega arith)) (omega arith) (sized-stay o (omega arith) (omega arith) z)
       log-put
-      (head-stays o (omega arith) z (omega arith))
+      (head-stays o (omega arith) z (omega arith) (λ p q. omega arith))
       (tables-stay o (omega arith) z (λ i p q r s. omega arith))
-      (used-stays o (omega arith) z (λ i p q r s. omega arith))
+      (used-stays o (omega arith) z (omega arith))
 
 -- ---- the tables' words come back as ys
 module _ (w ys : List ℕ) (z : Sized w) (kept : length ys ≡ 4 * limitsOf w .C + 4 * limitsOf w .D) where
@@ -209,11 +243,11 @@ module _ (w ys : List ℕ) (z : Sized w) (kept : length ys ≡ 4 * limitsOf w .C
   unfolding marketOf
   tables-moved =
       let o = only-back tables-loan in
-      moved-to o (omega arith) z (λ p q. omega arith) (omega arith) (sized-stay o (omega arith) (λ i p q r s. omega arith) z)
+      moved-to o (omega arith) z (o .others 9 (λ p q. omega arith)) (omega arith) (sized-stay o (omega arith) (omega arith) z)
       (log-stays o (omega arith) z (λ i p q r s. omega arith))
-      (head-stays o (omega arith) z (omega arith))
+      (head-stays o (omega arith) z (omega arith) (λ p q. omega arith))
       tables-put
-      (used-stays o (omega arith) z (λ i p q r s. omega arith))
+      (used-stays o (omega arith) z (omega arith))
 
 -- ---- the counts of the tables' rows are set to those of u
 module _ (w : List ℕ) (u : Used) (z : Sized w) where
@@ -258,11 +292,12 @@ module _ (w : List ℕ) (u : Used) (z : Sized w) where
       let y = set x 11 (u .counts .old) in
       getD-set-other (set y 13 (u .keys .new)) 14 12 (u .counts .new) 0 (omega arith) ∙ getD-set-other y 13 12 (u .keys .new) 0 (omega arith)
       ∙ getD-set-other x 11 12 (u .counts .old) 0 (omega arith) ∙ getD-set-other w 10 12 (u .keys .old) 0 (omega arith) in
+      let front : headOf (putUsed u w) .front ≡ headOf w .front = o .others 15 (λ p q. omega arith) in
       let keys : usedOf (putUsed u w) .keys .new ≡ u .keys .new = ap (λ (r : Used). r .keys .new) used-put in
       let pairs : usedOf (putUsed u w) .counts .new ≡ u .counts .new = ap (λ (r : Used). r .counts .new) used-put in
-      moved-to o (omega arith) z (λ p q. omega arith) (omega arith)
-      (sized-same (putUsed u w) w layout (limits-stay o (omega arith)) (o .size) (omega arith) (omega arith) z)
+      moved-to o (omega arith) z (o .others 9 (λ p q. omega arith)) (omega arith)
+      (sized-same (putUsed u w) w layout (limits-stay o (omega arith)) (o .size) (omega (arith, front, z .front)) (omega arith) (omega arith) z)
       (log-stays o (omega arith) z (λ i p q r s. omega arith))
-      (head-stays o (omega arith) z (omega arith))
+      (head-stays o (omega arith) z (omega arith) (λ p q. omega arith))
       used-tables
       used-put

@@ -96,14 +96,14 @@ module _ (w ys : List ℕ) (i : ℕ) (f : LineAt w i) (kept : length ys ≡ line
       let z : Sized w = f .lined .sized in
       market-by v w limits
       (log-stays only (omega arith) z (λ j p q r s. omega arith))
-      (head-stays only (omega arith) z (omega arith))
+      (head-stays only (omega arith) z (omega arith) (λ p q. omega arith))
       (tables-stay only (omega arith) z (λ j p q r s. omega arith))
-      (used-stays only (omega arith) z (λ j p q r s. omega arith))
+      (used-stays only (omega arith) z (omega arith))
       lines
 
   pub frame-sized : Sized (back (lineStart (limitsOf w) i) (lineStart (limitsOf w) i + lineWidth (limitsOf w)) ys w)
   unfolding a e v
-  frame-sized = sized-stay only (omega arith) (λ i p q r s. omega arith) (f .lined .sized)
+  frame-sized = sized-stay only (omega arith) (omega arith) (f .lined .sized)
 
   pub frame-kinds : getD ys 1 0 ≤ 3 → KindsKnown w → KindsKnown (back (lineStart (limitsOf w) i) (lineStart (limitsOf w) i + lineWidth (limitsOf w)) ys w)
   unfolding a e v

@@ -9,10 +9,10 @@ use Rattle.rules.specs.Log.{Log, keys, end}
 use Rattle.rules.specs.Lines.{Connection, connAt, nobody, fresh}
 use Rattle.words.specs.Words.{back, tab}
 use Rattle.words.proofs.Parts.{getD-part, length-back}
-use Rattle.words.proofs.Tab.{length-tab, getD-tab, tab-ext}
+use Rattle.words.proofs.Tab.{length-tab, getD-tab}
 use Rattle.log.specs.declared.Head.{Head}
-use Rattle.log.specs.Log.{keyIn, keysIn, logOf}
-use Rattle.log.proofs.Reading.{log-base, log-last, log-length, log-end, log-keys}
+use Rattle.log.specs.Log.{keysOf, logOf}
+use Rattle.log.proofs.Reading.{log-base, log-last, log-length, log-end, log-keys, keys-same}
 use Rattle.prints.specs.declared.Used.{Used}
 use Rattle.rows.specs.Tables.{size, tableOf}
 use Rattle.prints.specs.Area.{printsOf}
@@ -53,13 +53,14 @@ module _ (w : List ℕ) where
   entry-count = ap (λ (l : Log). length (l .entries)) market-log ∙ log-length (limitsOf w .G) (logWords w) (headOf w)
 
   -- its keys stand in the first words of its area
-  pub market-keys : headOf w .count ≤ limitsOf w .G → keys (marketOf w .log) ≡ keysIn (headOf w .count) (keyWords w)
-  market-keys h =
+  pub market-keys : headOf w .count ≤ limitsOf w .G → headOf w .front < limitsOf w .G
+      → keys (marketOf w .log) ≡ keysOf (limitsOf w .G) (headOf w .front) (headOf w .count) (keyWords w)
+  market-keys h f =
       let g = limitsOf w .G in
       let same : (i : ℕ) → i < 2 * g → getD (logWords w) i 0 ≡ getD (keyWords w) i 0 = λ i l.
       getD-part 64 (64 + 3 * g) w i (omega arith) ∙ sym (getD-part 64 (64 + 2 * g) w i (omega arith)) in
       ap keys market-log ∙ log-keys g (logWords w) (headOf w)
-      ∙ tab-ext (headOf w .count) (keyIn (logWords w)) (keyIn (keyWords w)) (λ i l. rw (same (2 * i) (omega arith), same (2 * i + 1) (omega arith)))
+      ∙ keys-same g (headOf w .front) (headOf w .count) (logWords w) (keyWords w) f h same
 
   -- ---- the prints
 
@@ -97,6 +98,9 @@ module _ (l : Limits) (start : ℕ) (w x y : List ℕ) (v : ℕ) (p : x ≡ l .L
 
   pub layout-empty : layoutOf emptied ≡ v
   layout-empty = λ j. layoutOf (back 8 16 (q j) (back 0 8 (p j) w))
+
+  pub front-empty : headOf emptied .front ≡ 0
+  front-empty = λ j. headOf (back 8 16 (q j) (back 0 8 (p j) w)) .front
 
   pub length-empty : 64 ≤ length w → length emptied ≡ length w
   length-empty h =

@@ -14,7 +14,7 @@ use Rattle.store.specs.Store.{limitsOf, headIn, headOf, lineCount, usedO
 use Rattle.store.specs.Moves.{Moved}
 use Rattle.store.proofs.LineFrame.{area-fits, areaIn}
 use Rattle.store.proofs.MarketLaws.{market-by}
-use Rattle.store.proofs.FrameLaws.{sized-same}
+use Rattle.store.proofs.FrameLaws.{used-same, sized-same}
 
 -- v is w but for the count of lines and the words from the i-th line's on
 pub record Relisted (w v : List ℕ) (i : ℕ) : Type 0 where
@@ -50,13 +50,10 @@ module _ (w v : List ℕ) (i : ℕ) (z : Sized w) (r : Relisted w v i) where
       ap (λ (l : Limits). part 64 (tablesAt l) v) limits ∙ before 64 (tablesAt (limitsOf w)) (omega arith) (λ j l m q. omega arith) in
       let tables : tableWords v ≡ tableWords w =
       ap (λ (l : Limits). part (tablesAt l) (linesAt l) v) limits ∙ before (tablesAt (limitsOf w)) (linesAt (limitsOf w)) (omega arith) (λ j l m q. omega arith) in
-      let head : headOf v ≡ headOf w = ap headIn (before 5 9 (omega arith) (λ j l m q. omega arith)) in
-      let keys = word 10 (omega arith) (λ q. omega arith) in
-      let counts = word 11 (omega arith) (λ q. omega arith) in
-      let newKeys = word 13 (omega arith) (λ q. omega arith) in
-      let newCounts = word 14 (omega arith) (λ q. omega arith) in
-      let used : usedOf v ≡ usedOf w = λ t.
-      record { keys = record { old = keys t; new = newKeys t }; counts = record { old = counts t; new = newCounts t } } in
+      let four = before 5 9 (omega arith) (λ j l m q. omega arith) in
+      let front = word 15 (omega arith) (λ q. omega arith) in
+      let head : headOf v ≡ headOf w = λ t. headIn (four t) (front t) in
+      let used : usedOf v ≡ usedOf w = used-same v w (λ j l m. word j (omega arith) (omega arith)) in
       let lines : tab (lineCount v) (connIn v) ≡ ls = ap (λ (l : Limits). tab (lineCount v) (λ j. connOf (l .H) (areaIn l v j))) limits ∙ e in
       market-by v w limits log head tables used lines
 
@@ -66,8 +63,11 @@ module _ (w v : List ℕ) (i : ℕ) (z : Sized w) (r : Relisted w v i) where
   relisted-moved ls e k =
       let keys = word 13 (omega arith) (λ q. omega arith) in
       let pairs = word 14 (omega arith) (λ q. omega arith) in
+      let front = word 15 (omega arith) (λ q. omega arith) in
       record {
         market = relisted-market ls e;
-        sized = sized-same v w (word 12 (omega arith) (λ q. omega arith)) limits (r .size) (omega (arith, keys, z .newKeys)) (omega (arith, pairs, z .newPairs)) z;
+        sized =
+            sized-same v w (word 12 (omega arith) (λ q. omega arith)) limits (r .size)
+            (omega (arith, front, z .front)) (omega (arith, keys, z .newKeys)) (omega (arith, pairs, z .newPairs)) z;
         kinds = λ s j h. subst (λ (l : Limits). getD (areaIn l v j) 1 0 ≤ 3) (sym limits) (k s j h);
       }

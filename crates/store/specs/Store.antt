@@ -7,7 +7,7 @@ use Rattle.rules.specs.declared.Limits.{Limits}
 use Rattle.rules.specs.Quantities.{wordsNeeded}
 use Rattle.rules.specs.Lines.{Connection, Market}
 use Rattle.rules.specs.Sound as Rules
-use Rattle.words.specs.Words.{part, tab}
+use Rattle.words.specs.Words.{part, back, tab}
 use Rattle.log.specs.declared.Head.{Head}
 use Rattle.log.specs.Log.{logOf}
 use Rattle.rows.specs.Tables.{mostNew}
@@ -20,15 +20,19 @@ use Rattle.lines.specs.Area.{stampIn, stampFlag, stampTime, connOf}
 abbrev pub limitsOf : List ℕ → Limits
 limitsOf w = record { L = getD w 0 0; H = getD w 1 0; G = getD w 2 0; C = getD w 3 0; D = getD w 4 0 }
 
--- four words: base, count, flag and time of last-applied
-abbrev pub headIn : List ℕ → Head
-headIn v = record { base = getD v 0 0; count = getD v 1 0; last = stampIn (getD v 2 0) (getD v 3 0) }
+-- four words, base, count, flag and time of last-applied; and the front's place
+abbrev pub headIn : List ℕ → ℕ → Head
+headIn v front = record { base = getD v 0 0; count = getD v 1 0; last = stampIn (getD v 2 0) (getD v 3 0); front = front }
 
 abbrev pub headWords : Head → List ℕ
 headWords h = h .base ∷ h .count ∷ stampFlag (h .last) ∷ stampTime (h .last) ∷ []
 
 abbrev pub headOf : List ℕ → Head
-headOf w = headIn (part 5 9 w)
+headOf w = headIn (part 5 9 w) (getD w 15 0)
+
+-- the words with the head h
+abbrev pub putHead : Head → List ℕ → List ℕ
+putHead h w = set (back 5 9 (headWords h) w) 15 (h .front)
 
 abbrev pub lineCount : List ℕ → ℕ
 lineCount w = getD w 9 0
@@ -42,7 +46,7 @@ putUsed u w = set (set (set (set w 10 (u .keys .old)) 11 (u .counts .old)) 13 (u
 
 -- the layout of a store's words, which every change of it raises; setup writes it
 abbrev pub layout : ℕ
-layout = 2
+layout = 3
 
 abbrev pub layoutOf : List ℕ → ℕ
 layoutOf w = getD w 12 0
@@ -91,7 +95,8 @@ marketOf w =
 
 -- ---- sound
 
--- of this layout, with few new rows in its tables, and long enough for its limits, which are in range
+-- of this layout, with the log's front below G (request 3), with few new rows in its tables, and long enough for its limits,
+-- which are in range
 pub record Sized (w : List ℕ) : Type 0 where
   pub header : 64 ≤ length w
   pub version : layoutOf w ≡ layout
@@ -101,6 +106,7 @@ pub record Sized (w : List ℕ) : Type 0 where
   pub events : limitsOf w .G ≤ 1048576
   pub keys : limitsOf w .C ≤ 65536
   pub pairs : limitsOf w .D ≤ 65536
+  pub front : headOf w .front < limitsOf w .G
   pub newKeys : usedOf w .keys .new ≤ mostNew
   pub newPairs : usedOf w .counts .new ≤ mostNew
 

@@ -9,8 +9,7 @@ ghost use lib.ListN.{length};
 ghost use Rattle.rules.specs.Log as Rules;
 ghost use Rattle.rules.specs.Log.{push, stamp, clear, prune};
 ghost use Rattle.rules.specs.Lines.{withLog};
-ghost use Rattle.words.specs.Words.{back};
-ghost use Rattle.store.specs.Store.{limitsOf, headOf, headWords, keyWords, marketOf, Sized};
+ghost use Rattle.store.specs.Store.{limitsOf, headOf, putHead, keyWords, marketOf, Sized};
 ghost use Rattle.store.specs.Moves.{Moved, Counts};
 
 // The market's limits.
@@ -36,17 +35,20 @@ pub fn head(s: &[u64]) -> Head
     let count = s[6] as usize;
     let flag = s[7];
     let t = s[8];
+    let front = s[15] as usize;
     if flag == 0 {
         return Head {
             base,
             count,
             last: Stamp::Never,
+            front,
         };
     }
     Head {
         base,
         count,
         last: Stamp::At(t),
+        front,
     }
 }
 
@@ -64,6 +66,14 @@ pub fn count(s: &[u64]) -> usize
     ensures { λ r. ⌜ r ≡ headOf (now (s .entry)) .count ⌝ }
 {
     s[6] as usize
+}
+
+// The place of the log's first entry.
+pub fn front(s: &[u64]) -> usize
+    requires { ⌜ 64 ≤ length (now s) ⌝ }
+    ensures { λ r. ⌜ r ≡ headOf (now (s .entry)) .front ⌝ }
+{
+    s[15] as usize
 }
 
 // The number after the log's last.
@@ -87,15 +97,17 @@ pub fn keys(s: &[u64]) -> &[u64]
 // Writes the log's head.
 fn put_head(s: &mut [u64], head: Head)
     requires { ⌜ 64 ≤ length (now s) ⌝ }
-    ensures { λ _. ⌜ now (s .exit) ≡ back 5 9 (headWords head) (now (s .entry)) ⌝ }
+    ensures { λ _. ⌜ now (s .exit) ≡ putHead head (now (s .entry)) ⌝ }
 {
     let base = head.base;
     let count = head.count;
     let last = head.last;
+    let front = head.front;
     match last {
         Stamp::Never => words::put4(&mut s[5..9], base, count as u64, 0, 0),
         Stamp::At(t) => words::put4(&mut s[5..9], base, count as u64, 1, t),
     }
+    s[15] = front as u64;
 }
 
 // Adds an entry at the log's end and sets last-applied.
@@ -107,7 +119,7 @@ pub fn push(s: &mut [u64], key: EventKey, t: u64)
     let g = s[2] as usize;
     let e = crate::areas::tables_start(s);
     let old = head(s);
-    let new = log::push(&mut s[64..e], g, old, key, t);
+    let new = log_borrowed::lent::push_head(&mut s[64..e], g, old, key, t);
     put_head(s, new);
 }
 
@@ -126,7 +138,7 @@ pub fn clear_log(s: &mut [u64])
     requires { ⌜ headOf (now s) .base + headOf (now s) .count < 2 ^ 64 ⌝ }
     ensures { λ _. ⌜ Moved (now (s .entry)) (now (s .exit)) (withLog (clear (marketOf (now (s .entry)) .log)) (marketOf (now (s .entry)))) ⌝ }
 {
-    let new = log::clear(head(s));
+    let new = log_borrowed::lent::clear_head(head(s));
     put_head(s, new);
 }
 
@@ -139,6 +151,6 @@ pub fn prune(s: &mut [u64], t: u64)
     let g = s[2] as usize;
     let e = crate::areas::tables_start(s);
     let old = head(s);
-    let new = log::prune(&mut s[64..e], g, old, t);
+    let new = log::prune(&s[64..e], g, old, t);
     put_head(s, new);
 }

@@ -1,4 +1,4 @@
--- Lists of words: parts that are lent and come back, lists made from an index, words moved; and what a test says.
+-- Lists of words: parts that are lent and come back, lists made from an index, words copied; and what a test says.
 -- The forms are those of the borrow checker, so that no goal is rewritten to meet a law.
 use mathlib.Core.Path.{_≡_}
 use mathlib.Core.Logic.{_⊎_}
@@ -23,12 +23,6 @@ over xs v = xs ++ drop (length xs) v
 abbrev pub tab : {A : Type 0} → ℕ → (ℕ → A) → List A
 tab zero f = []
 tab (suc n) f = f 0 ∷ tab n (λ i. f (suc i))
-
--- w is v with i of its words from `from` at the front
-pub record Moved (from : ℕ) (v w : List ℕ) (i : ℕ) : Type 0 where
-  pub size : length w ≡ length v
-  pub done : (j : ℕ) → j < i → getD w j 0 ≡ getD v (from + j) 0
-  pub rest : (j : ℕ) → i ≤ j → getD w j 0 ≡ getD v j 0
 
 -- the n words at a and the n words at b are others
 abbrev pub Apart : ℕ → ℕ → ℕ → Type 0

@@ -1,44 +1,9 @@
-// Words of a lent store: shared laws are in specs/, and the moves that several areas use are here.
+// Words of a lent store: shared laws are in proofs/, and what several areas do with words is here.
 ghost use Prim.Native.Nat.{_+_, _≤_};
 ghost use lib.ListN.{length};
 ghost use mathlib.Core.Path.{_≡_};
 ghost use mathlib.Core.List.{[], _∷_};
-ghost use Rattle.words.specs.Words.{Moved, Apart, Copied};
-
-// Moves words from `from` to the front, four at a time; how many of n were moved.
-fn move_fours(s: &mut [u64], from: usize, n: usize) -> usize
-    requires { ⌜ from + n ≤ length (now s) ⌝ }
-    ensures { λ r. ⌜ (r ≤ n) × Moved from (now (s .entry)) (now (s .exit)) r ⌝ }
-{
-    let mut i = 0;
-    while 4 <= n - i {
-        let x = s[from + i];
-        let y = s[from + i + 1];
-        let z = s[from + i + 2];
-        let u = s[from + i + 3];
-        s[i] = x;
-        s[i + 1] = y;
-        s[i + 2] = z;
-        s[i + 3] = u;
-        i += 4;
-    }
-    i
-}
-
-// Moves the n words from `from` to the front.
-pub fn move_down(s: &mut [u64], from: usize, n: usize)
-    requires { ⌜ from + n ≤ length (now s) ⌝ }
-    ensures { λ r. ⌜ Moved from (now (s .entry)) (now (s .exit)) n ⌝ }
-{
-    if from == 0 {
-        return;
-    }
-    let mut i = move_fours(s, from, n);
-    while i < n {
-        s[i] = s[from + i];
-        i += 1;
-    }
-}
+ghost use Rattle.words.specs.Words.{Apart, Copied};
 
 // Copies the n words from `from` on to the places from `to` on, which are others.
 pub fn copy(s: &mut [u64], from: usize, to: usize, n: usize)

@@ -5,7 +5,7 @@ use Rattle.log.proofs.stamp.Tie as tie
 
 returns : tie.Need-returns
 unfolding logOf
-returns c = ((λ g w. refl), (refl, refl))
+returns c = ((λ g w. refl), (refl, (refl, refl)))
 
 pub stamp-spec : {M : Type 1} → statement M
 stamp-spec = tie.close (tie.spec returns)

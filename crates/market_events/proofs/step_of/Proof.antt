@@ -6,14 +6,16 @@ use Rattle.market_events.proofs.step_of.Tie as tie
 
 line-at-requires : tie.Need-line-at-requires
 line-at-requires c κs =
-    let s = c .before .before .before in
+    let s = c .before .before .before .before in
     line-at (s .pre .0) (s .pre .1)
 
 event-requires : tie.Need-event-requires
 event-requires c κs =
     let he = c .before .before .before in
-    let s = he .before .before in
-    step-asks (s .pre .0) (s .pre .1) (s .args .key) (he .head .result) (c .keys .result .now) (he .head .ensures) (c .keys .ensures)
+    let li = he .before in
+    let s = li .before .before in
+    step-asks (s .pre .0) (s .pre .1) (s .args .key) (li .limits .result) (he .head .result) (c .keys .result .now) (li .limits .ensures) (he .head .ensures)
+    (c .keys .ensures)
 
 returns : tie.Need-returns
 returns c message =
@@ -21,15 +23,17 @@ returns c message =
     let la = ke .before in
     let hl = la .before in
     let he = hl .before in
-    let s = he .before .before in
-    step-said (s .pre .0) (s .pre .1) (s .args .key) (he .head .result) (ke .keys .result .now) (hl .held-limit .result) (la .line-at .result)
+    let li = he .before in
+    let s = li .before .before in
+    step-said (s .pre .0) (s .pre .1) (s .args .key) (li .limits .result) (he .head .result) (ke .keys .result .now) (hl .held-limit .result) (la .line-at .result)
     (c .event .result)
-    (he .head .ensures) (ke .keys .ensures) (hl .held-limit .ensures) (la .line-at .ensures) (c .event .ensures) message
+    (li .limits .ensures) (he .head .ensures) (ke .keys .ensures) (hl .held-limit .ensures) (la .line-at .ensures) (c .event .ensures) message
 
 pub step-of-spec : {M : Type 1} → statement M
 step-of-spec =
     tie.close
     (tie.spec
+    (λ c κs. search needs)
     (λ c κs. search needs)
     (λ c κs. search needs)
     line-at-requires

@@ -9,7 +9,7 @@ returns-3 : tie.Need-returns-3
 returns-3 c =
     let a = c .before .before .before .before .before .args in
     let q = c .before .before .if1 .left in
-    rw q (sym (ap (placeOf (a .base)) (few _ _ (leb-false _ _ (sym (c .before .holds-run .ensures) ∙ c .if2 .left)))))
+    rw q (sym (ap (placeOf (a .head .base)) (few _ _ (leb-false _ _ (sym (c .before .holds-run .ensures) ∙ c .if2 .left)))))
 
 pub alignment-spec : {M : Type 1} → statement M
 alignment-spec =

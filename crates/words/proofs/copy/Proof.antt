@@ -3,7 +3,7 @@ use Prim.Native.Nat.{_≤_, _-_}
 use native.Mathlib.Omega.{arith}
 use borrow.Author.Needs.{needs}
 use Rattle.words.specs.Words.{Copied}
-use Rattle.words.proofs.Move.{copied-none, copied-more}
+use Rattle.words.proofs.Copying.{copied-none, copied-more}
 use Rattle.words.proofs.copy.Statement.{statement}
 use Rattle.words.proofs.copy.Tie as tie
 

@@ -1,4 +1,4 @@
--- `log_borrowed::lent::clear` meets its contract: a walk of its MIR, by hand. The head's borrow is opened, base and count are written, and the borrow is closed at the head with these two and last as it was.
+-- `log_borrowed::lent::clear` meets its contract: a walk of its MIR, by hand. The head's borrow is opened, base and count are written, and the borrow is closed at the head with these two, and last and front as they were.
 -- Assumes nothing.
 use mathlib.Core.Path.{refl}
 use Prim.Native.Nat.{ℕ, _+_}
@@ -52,7 +52,7 @@ module _ {M : Type 1} (𝓤 : URA M) (H : Heap 𝓤) (A : Atoms 𝓤) (W : Given
 
   -- the head that is left
   abbrev h′ : Head
-  h′ = record { base = h .base + h .count; count = 0; last = h .last }
+  h′ = record { base = h .base + h .count; count = 0; last = h .last; front = h .front }
 
   abbrev mach : Head → Val
   mach x = LL.tuple-val T.the-type T′.the-laws (T.the-type .to x)
@@ -73,7 +73,7 @@ module _ {M : Type 1} (𝓤 : URA M) (H : Heap 𝓤) (A : Atoms 𝓤) (W : Given
   exits : ent 𝓤 (⋆ 𝓤 H A (‵ (fobs γ (T.the-row .coded .code h′)) ∷ ‵ (fbor κ (Body (mem T.the-row) b o γ)) ∷ ‵ (flft κ q) ∷ [])) (Post vunit)
   exits =
       qed W (‵ (fobs γ (T.the-row .coded .code h′)) ∷ ‵ (fbor κ (Body (mem T.the-row) b o γ)) ∷ ‵ (flft κ q) ∷ []) ∵
-      suffices ! _ (ends-at 𝓤 H A f.ended stayed (f.clauses 𝓤 H A at-mem run) W (((κ, tt), (q, tt), tt, a, vals), tt) vunit tt (h′, tt) (tt, tt)) $ says-both ! (λ g w. clear-done g w h) (refl, refl) $
+      suffices ! _ (ends-at 𝓤 H A f.ended stayed (f.clauses 𝓤 H A at-mem run) W (((κ, tt), (q, tt), tt, a, vals), tt) vunit tt (h′, tt) (tt, tt)) $ says-both ! (λ g w. clear-done g w h) (refl, (refl, refl)) $
       nothing ! $ move ! (3 ∷ 0 ∷ []) $ join ! $ frame ! $ feqI ! (List Val) (vptr b o ∷ []) (vptr b o ∷ []) refl $ fjoin3 ! $ nothing ! $ move ! (1 ∷ 0 ∷ []) $ fjoin ! $
       feqI ! (List Val) (vunit ∷ []) (vunit ∷ []) refl $ move ! (1 ∷ 0 ∷ []) $ done !
 

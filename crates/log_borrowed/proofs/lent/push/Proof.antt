@@ -1,4 +1,4 @@
--- `log_borrowed::lent::push` meets its contract: a walk of its MIR, by hand. The head's borrow is opened, its count is read, and `log::put` is called with the area, whose borrow is given up for good; count and last are written, and the borrow is closed at the head with these two and base as it was.
+-- `log_borrowed::lent::push` meets its contract: a walk of its MIR, by hand. The head's borrow is opened, its count and its front are read, and `log::put` is called with the area, whose borrow is given up for good; count and last are written, and the borrow is closed at the head with these two, and base and front as they were.
 -- All that the proof knows of `log::put` is that it meets its contract.
 -- Assumes nothing.
 use mathlib.Core.Path.{_≡_, refl}
@@ -20,7 +20,7 @@ use contract.Monad.{Fun, fact}
 use contract.Running.{givenOf, tables, tablesOf}
 use contract.Lifetimes.{AllOutlive}
 use types.Kit.{Given, ‵, raw, some, later, _⊛_, ⋆, _$_, _∵_, !, qed, by, move, keep, drop, use1, use2, split, join, pick, fsplit, fsplit3, fjoin, fjoin3, feqL, feqI, suffices, frame, await, done}
-use types.Run.{look, init, forget, stop, hop, fld, from, load, addr, lit, unit-lit, of-opd, bin, and-then, no-more, assigns, land, returns, enter, alloc1, alloc0, params1, pass1, pass0, free1, free0}
+use types.Run.{look, init, store, forget, stop, hop, fld, from, load, addr, lit, unit-lit, of-opd, bin, and-then, no-more, assigns, land, returns, enter, alloc1, alloc0, params1, pass1, pass0, free1, free0}
 use types.Part.{agg, whole, sub, look-in, store-in}
 use types.SemTy.{Body}
 use sound.WpLaws.{FmC, fmOf, WpFn-mono}
@@ -50,7 +50,7 @@ use Rattle.rules.proofs.EventKey.Laws as K′
 use Rattle.rules.proofs.Stamp as S
 use Rattle.rules.proofs.Stamp.Laws as S′
 use Rattle.rules.specs.declared.Stamp.the-variants as Stamp
-use Rattle.log.specs.Log.{put}
+use Rattle.log.specs.Log.{entryPlace, put}
 use Rattle.log.specs.declared.Head.{Head}
 use Rattle.log.proofs.Changes.{pushed, push-done, push-fit}
 use Rattle.log.proofs.Claims.{CanPush, says-both}
@@ -114,31 +114,34 @@ module _ {M : Type 1} (𝓤 : URA M) (H : Heap 𝓤) (A : Atoms 𝓤) (W : Given
   Post = walkOf 𝓤 H A f.ended stayed (f.clauses 𝓤 H A at-mem run) .post (((κ, (κ′, tt)), (q, (q′, tt)), bounds, a, vals), tt)
 
   -- what the callee's triple binds outside
-  abbrev passed : RefT (List ℕ) × (ℕ × (ℕ × (Key × (ℕ × Unit {0}))))
-  passed = (x, (g, (h .count, (k, (t, tt)))))
+  abbrev passed : RefT (List ℕ) × (ℕ × (ℕ × (ℕ × (Key × (ℕ × Unit {0})))))
+  passed = (x, (g, (h .front, (h .count, (k, (t, tt))))))
 
   abbrev to : Put 𝓤 H A at-mem run .Ghost
-  to = (((κ, tt), (q, tt), tt, passed, (s ∷ [], (vint w64 g ∷ [], (vint w64 (h .count) ∷ [], key-time)))), tt)
+  to = (((κ, tt), (q, tt), tt, passed, (s ∷ [], (vint w64 g ∷ [], (vint w64 (h .front) ∷ [], (vint w64 (h .count) ∷ [], key-time))))), tt)
 
   -- what the callee says
   abbrev Said : List ℕ → Type 0
-  Said zs = zs ≡ put g (h .count) k t ys
+  Said zs = zs ≡ put g (entryPlace g (h .front) (h .count)) k t ys
 
   count-fits : Fits w64 (h .count)
   count-fits = record { fits = omega (arith, can .1) }
+
+  front-fits : Fits w64 (h .front)
+  front-fits = record { fits = omega (arith, can .0 .front) }
 
   more-fits : Fits w64 (h .count + 1)
   more-fits = record { fits = omega (arith, can .1) }
 
   -- what closing the borrow asks
   made : Is T.the-row h (mach h ∷ []) → Is T.the-row h′ (mach h′ ∷ [])
-  made was = LL.owes T.the-type T′.the-laws h′ (LL.owed T.the-type T′.the-laws h _ was .0, ((refl, more-fits .fits), (EL.owes S.the-type S′.the-laws (Stamp.At t) ((refl, t-fits), tt), tt)))
+  made was = LL.owes T.the-type T′.the-laws h′ (LL.owed T.the-type T′.the-laws h _ was .0, ((refl, more-fits .fits), (EL.owes S.the-type S′.the-laws (Stamp.At t) ((refl, t-fits), tt), ((refl, front-fits .fits), tt))))
 
   goes : Is K.the-row k (key-mach ∷ []) → ent 𝓤 (sep 𝓤 (sep 𝓤 (A .lft κ q) (sem 𝓤 H A ftrue)) (sem 𝓤 H A (MutSlice (named 0) κ u64 .own x (s ∷ [])))) (Put 𝓤 H A at-mem run .pre to)
   goes key-was =
-      qed W ((‵ (flft κ q) ⊛ ‵ ftrue) ∷ ‵ (MutSlice (named 0) κ u64 .own x (s ∷ [])) ∷ []) ∵ says ! (can .0 .size, can .1) $ frame ! $
+      qed W ((‵ (flft κ q) ⊛ ‵ ftrue) ∷ ‵ (MutSlice (named 0) κ u64 .own x (s ∷ [])) ∷ []) ∵ says ! (can .0 .size, (can .0 .front, can .1)) $ frame ! $
       nothing ! $ owned ! u64 (Is u64) (uint-makes 𝓤 H A W w64) t _ (refl, t-fits) $ fjoin ! $ owned ! K.the-row (Is K.the-row) ((LL.makes K.the-type K′.the-plain) 𝓤 H A) k _ key-was $ fjoin ! $
-      owned ! usize (Is usize) (uint-makes 𝓤 H A W w64) (h .count) _ (refl, count-fits .fits) $ fjoin ! $ owned ! usize (Is usize) (uint-makes 𝓤 H A W w64) g _ (refl, g-fits) $ fjoin ! $
+      owned ! usize (Is usize) (uint-makes 𝓤 H A W w64) (h .count) _ (refl, count-fits .fits) $ fjoin ! $ owned ! usize (Is usize) (uint-makes 𝓤 H A W w64) (h .front) _ (refl, front-fits .fits) $ fjoin ! $ owned ! usize (Is usize) (uint-makes 𝓤 H A W w64) g _ (refl, g-fits) $ fjoin ! $
       move ! (1 ∷ 0 ∷ []) $ fjoin ! $ done !
 
   exits : (zs : List ℕ) → Said zs → length zs ≡ length ys → Is K.the-row k (key-mach ∷ [])
@@ -171,18 +174,19 @@ module _ {M : Type 1} (𝓤 : URA M) (H : Heap 𝓤) (A : Atoms 𝓤) (W : Given
         assigns ! (of-opd ! (load ! (from ! (hop ! (look ! 21 refl) (fld ! refl (stop !)))) (look-in ! 0 (sub ! 1 refl (whole !))))) (from ! (stop !)) (init ! 15 refl (tt, count-fits)) $
         assigns ! (addr ! (from ! (fld ! refl (hop ! (look-in ! 25 (sub ! 0 refl (whole !))) (stop !))))) (from ! (stop !)) (init ! 11 refl (tt, tt)) $
         assigns ! (agg ! (and-then ! (load ! (from ! (stop !)) (look ! 11 refl)) (and-then ! (load ! (from ! (fld ! refl (stop !))) (look-in ! 25 (sub ! 1 refl (whole !)))) (no-more !)))) (from ! (stop !)) (init ! 9 refl (tt, (tt, (record { fits = room .0 }, tt)))) $
+        assigns ! (of-opd ! (load ! (from ! (hop ! (look ! 21 refl) (fld ! refl (stop !)))) (look-in ! 0 (sub ! 3 refl (whole !))))) (from ! (stop !)) (init ! 7 refl (tt, front-fits)) $
         move ! (5 ∷ 6 ∷ []) $ use2 W (raw (Put 𝓤 H A at-mem run .pre to)) (goes key-was) $
         -- [pre; cell; Head; open; obs; auth; _10 at 6; …]
-        calls-at ! fm (Put 𝓤 H A at-mem run) known to (holding ! (and-then ! (load ! (from ! (stop !)) (look ! (entry 0) refl)) (and-then ! (load ! (from ! (stop !)) (look ! (entry 1) refl)) (and-then ! (load ! (from ! (stop !)) (look ! (entry 2) refl)) (and-then ! (load ! (from ! (stop !)) (look ! (entry 3) refl)) (and-then ! (load ! (from ! (stop !)) (look ! (entry 4) refl)) (no-more !)))))) refl) (λ w.
+        calls-at ! fm (Put 𝓤 H A at-mem run) known to (holding ! (and-then ! (load ! (from ! (stop !)) (look ! (entry 0) refl)) (and-then ! (load ! (from ! (stop !)) (look ! (entry 1) refl)) (and-then ! (load ! (from ! (stop !)) (look ! (entry 2) refl)) (and-then ! (load ! (from ! (stop !)) (look ! (entry 3) refl)) (and-then ! (load ! (from ! (stop !)) (look ! (entry 4) refl)) (and-then ! (load ! (from ! (stop !)) (look ! (entry 5) refl)) (no-more !))))))) refl) (λ w.
         use1 W (later (some (λ (r : Unit {0}). ((‵ (flft κ q) ⊛ ‵ ftrue) ⊛ ‵ (unit .own r (w ∷ []))) ⊛ raw (ensured 𝓤 H A callee.ended (callee.clauses 𝓤 H A at-mem run) (κ, tt) passed tt r)))) (id⊢ 𝓤 _) $ await ! tt $ pick ! (λ r.
         -- what the callee ensures, at some last list
-        split ! $ move ! (1 ∷ []) $ use1 W (some (λ (zs : List ℕ × (Unit {0} × (Unit {0} × (Unit {0} × (Unit {0} × Unit {0}))))). ‵ (lasts callee.ended (κ, tt) passed zs) ⊛ raw (fact 𝓤 (Said (zs .0))))) (id⊢ 𝓤 _) $ pick ! (λ zs.
+        split ! $ move ! (1 ∷ []) $ use1 W (some (λ (zs : List ℕ × (Unit {0} × (Unit {0} × (Unit {0} × (Unit {0} × (Unit {0} × Unit {0})))))). ‵ (lasts callee.ended (κ, tt) passed zs) ⊛ raw (fact 𝓤 (Said (zs .0))))) (id⊢ 𝓤 _) $ pick ! (λ zs.
         split ! $ move ! (1 ∷ []) $ heard ! (Said (zs .0)) (λ e. fsplit ! $ fsplit ! $ move ! (1 ∷ []) $ feqL ! (λ l.
         -- [the last list; …; the token and the result; cell; Head; open; obs; auth; _10; …]
         move ! (2 ∷ []) $ split ! $ move ! (1 ∷ []) $ peeks ! unit (Is unit) (shows 𝓤 H A unit) r (w ∷ []) (λ is. drop ! $
         -- [the token; the last list; …; cell; Head; open; obs; auth; _10 at 8; _9 10; _8 12; _7 14; _6 16; _5 18; _4 20; _3 22; _2 24; _1 26; _0 28]
         land ! (from ! (stop !)) (init ! 14 refl (nothing-lawful 𝓤 H A W .typed r _ is .0)) $
-        assigns ! (bin ! (load ! (from ! (stop !)) (look ! 16 refl)) (lit ! tt) more-fits) (from ! (stop !)) (init ! 8 refl (tt, more-fits)) $
+        assigns ! (bin ! (load ! (from ! (stop !)) (look ! 16 refl)) (lit ! tt) more-fits) (from ! (stop !)) (store ! 8 refl (tt, more-fits)) $
         assigns ! (of-opd ! (load ! (from ! (stop !)) (look ! 8 refl))) (from ! (hop ! (look ! 22 refl) (fld ! refl (stop !)))) (store-in ! 3 (sub ! 1 refl (whole !)) (tt, more-fits)) $
         assigns ! (agg ! (and-then ! (lit ! tt) (and-then ! (load ! (from ! (stop !)) (look ! 18 refl)) (no-more !)))) (from ! (hop ! (look ! 22 refl) (fld ! refl (stop !)))) (store-in ! 3 (sub ! 2 refl (whole !)) (tt, (record { fits = omega arith }, (record { fits = t-fits }, tt)))) $
         assigns ! (of-opd ! (unit-lit !)) (from ! (stop !)) (init ! 28 refl (tt, tt)) $

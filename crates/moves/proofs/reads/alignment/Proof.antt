@@ -20,29 +20,35 @@ returns c =
     nowhere-due (m .log .base) (s .args .quiet) ((connAt (s .args .i) m) .line) m (sym (c .before .some-due .ensures) ∙ c .if2 .taken)
 
 held-requires : tie.Need-held-requires
-held-requires c κs = let s = c .before .before .before .before .before .before .before in record { lined = lined-sound (s .args .s .now) (s .pre .0); here = s .pre .1 }
+held-requires c κs =
+    let s = c .before .before .before .before .before .before .before .before in
+    record { lined = lined-sound (s .args .s .now) (s .pre .0); here = s .pre .1 }
 
 items-requires : tie.Need-items-requires
 items-requires c κs =
-    let s = c .before .before .before .before .before .before .before .before .before in record { lined = lined-sound (s .args .s .now) (s .pre .0); here = s .pre .1 }
+    let s = c .before .before .before .before .before .before .before .before .before .before in
+    record { lined = lined-sound (s .args .s .now) (s .pre .0); here = s .pre .1 }
 
 alignment-requires : tie.Need-alignment-requires
 alignment-requires c κs =
     let h = c .before .before .before in
-    let s = h .before .before .before .before .before .before .before in
-    counted (s .pre .0) (s .pre .1) (c .before .keys .ensures) (c .items .ensures) (h .head .ensures) (c .before .before .held .ensures)
+    let g = h .before in
+    let s = g .before .before .before .before .before .before .before in
+    counted (s .pre .0) (s .pre .1) (g .limits .ensures) (c .before .keys .ensures) (c .items .ensures) (h .head .ensures) (c .before .before .held .ensures)
 
 returns-2 : tie.Need-returns-2
 returns-2 c =
     let h = c .before .before .before .before in
-    let d = h .before .before in
+    let g = h .before in
+    let d = g .before .before in
     let p = d .before .before in
     let s = p .before .before .before in
     let w = s .args .s .now in
     c .alignment .ensures
-    ∙ aligned-place (s .pre .0) (s .pre .1) (c .before .before .keys .ensures) (c .before .items .ensures) (h .head .ensures) (c .before .before .before .held .ensures) (s .args .quiet)
+    ∙ aligned-place (s .pre .0) (s .pre .1) (g .limits .ensures) (c .before .before .keys .ensures) (c .before .items .ensures) (h .head .ensures)
+    (c .before .before .before .held .ensures) (s .args .quiet)
     (sym (line-told w (s .args .i) (s .pre .1) isPending (λ v. p .pending .result) _ (p .pending .ensures) (p .before .line-at .ensures)) ∙ d .before .if1 .taken)
-    (sym (d .some-due .ensures) ∙ h .before .if2 .left)
+    (sym (d .some-due .ensures) ∙ g .before .if2 .left)
 
 returns-3 : tie.Need-returns-3
 returns-3 c =
@@ -60,6 +66,7 @@ alignment-spec =
     (λ c κs. search needs)
     some-due-requires
     returns
+    (λ c κs. search needs)
     (λ c κs. search needs)
     held-requires
     (λ c κs. search needs)

@@ -1,24 +1,25 @@
 use Rattle.rules.specs.Log.{prune}
-use Rattle.store.proofs.EntryLaws.{log-done, prune-ready}
+use Rattle.store.proofs.EntryLaws.{head-done, prune-ready}
 use borrow.Author.Needs.{needs}
 use Rattle.store.proofs.entries.prune.Statement.{statement}
 use Rattle.store.proofs.entries.prune.Tie as tie
 
 prune-requires : tie.Need-prune-requires
 prune-requires c κs =
-    let h = c .before in
+    let h = c .before .before in
     let e = h .before .before in
     let s = e .before .before .before .before in
     prune-ready (e .tables-start .ensures) (s .pre .0) (h .head .ensures) (s .pre .1)
 
 returns : tie.Need-returns
 returns c =
-    let p = c .before .before .before .before .before .before in
-    let h = p .before .before in
+    let p = c .before .before .before .before in
+    let r = p .prune .ensures in
+    let h = p .before .before .before in
     let e = h .before .before in
     let s = e .before .before .before .before in
-    log-done (e .tables-start .ensures) (s .pre .0) (h .head .ensures)
-    (p .prune .last .0) (p .prune .result) (prune (s .args .t)) (p .prune .kept .0) (p .prune .ensures .0) (c .before .before .put-head .ensures)
+    head-done (e .tables-start .ensures) (s .pre .0) (h .head .ensures)
+    (p .prune .result) (prune (s .args .t)) (r .1 .0 .front) (r .0) (c .before .before .put-head .ensures)
 
 pub prune-spec : {M : Type 1} → statement M
 prune-spec =

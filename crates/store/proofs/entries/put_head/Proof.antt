@@ -1,12 +1,36 @@
+use mathlib.Core.Path.{_≡_, ap, _∙_, refl}
+use mathlib.Core.Logic.{⊎-elim}
+use native.Mathlib.Omega.{arith}
+use lib.ListN.{length}
+use Rattle.words.specs.Words.{back}
+use Rattle.words.proofs.Parts.{length-back}
+use Rattle.store.specs.Store.{headWords}
 use borrow.Author.Needs.{needs}
 use Rattle.store.proofs.entries.put_head.Statement.{statement}
 use Rattle.store.proofs.entries.put_head.Tie as tie
 
-returns : tie.Need-returns
-returns c = rw (c .before .before .put4 .ensures, c .before .before .before .before .enum-told .given .1)
+-- by either arm, the four words are the head's
+written : (c : tie.At-match-came) → c .match .s ≡ back 5 9 (headWords (c .before .before .args .head)) (c .before .before .args .s .now)
+written c =
+    ⊎-elim
+    (λ w. w .6 ∙ rw (w .3 .ensures, w .1 .given .1))
+    (λ w. w .7 ∙ rw (w .4 .ensures, w .1 .given .1))
+    (c .match .came)
 
-returns-2 : tie.Need-returns-2
-returns-2 c = rw (c .before .before .put42 .ensures, c .before .before .before .before .before .last .given .1)
+kept : (c : tie.At-match-came) → length (c .match .s) ≡ length (c .before .before .args .s .now)
+kept c =
+    let a = c .before .before in
+    let h = a .pre in
+    ap length (written c) ∙ length-back 5 9 (headWords (a .args .head)) (a .args .s .now) (record { kept = refl; start = omega arith; inside = omega arith })
+
+slice-write-s : tie.Need-slice-write-s
+slice-write-s c = let k = kept c in search needs
+
+same-length : tie.Need-same-length
+same-length c = let k = kept c in search needs
+
+returns : tie.Need-returns
+returns c = rw (written c)
 
 pub put-head-spec : {M : Type 1} → statement M
 put-head-spec =
@@ -22,7 +46,6 @@ put-head-spec =
     (λ c. search needs)
     (λ c. search needs)
     (λ c κs. search needs)
-    (λ c. search needs)
-    returns
-    (λ c. search needs)
-    returns-2)
+    slice-write-s
+    same-length
+    returns)
