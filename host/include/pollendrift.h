@@ -89,7 +89,7 @@ enum {
 };
 
 /* The version of a store's layout. Setup writes it to word 12; a store of another version is refused with 1. */
-#define MERGE_LAYOUT 2
+#define MERGE_LAYOUT 3
 
 /* Words that a store needs, for L lines (1 to 16), held limit H (1 to 5,000), event limit G (1 to 1,048,576), C print keys and D
  * count pairs (1 to 65,536 each). A store may be longer. */

@@ -79,6 +79,8 @@ impl<'a> Maker<'a> {
     pub fn clock(&mut self, tick: bool) -> u64 {
         let step = match self.r.below(100) {
             0..=59 => 0,
+            // with a small log time goes on, so that a tick forgets a part of it
+            60..=74 if self.x.g <= 40 => self.r.between(0, 2_500),
             60..=74 => 1,
             75 | 76 => self.r.of(&STEPS),
             77 => {
@@ -247,8 +249,20 @@ impl<'a> Maker<'a> {
 
     fn manner(&mut self) -> Manner {
         let x = self.x;
-        let changes =
-            [(0, 17), (1, 0), (2, u64::MAX), (3, 65_537), (4, 0), (6, x.g + 1), (9, x.l + 1), (10, x.c + 1), (11, x.d + 1), (13, 513), (14, 513)];
+        let changes = [
+            (0, 17),
+            (1, 0),
+            (2, u64::MAX),
+            (3, 65_537),
+            (4, 0),
+            (6, x.g + 1),
+            (9, x.l + 1),
+            (10, x.c + 1),
+            (11, x.d + 1),
+            (13, 513),
+            (14, 513),
+            (15, x.g),
+        ];
         match self.r.below(10) {
             0 => Manner::Right,
             1 => Manner::Short(self.r.of(&[1, 1, 64, x.store() - 63, x.store()])),

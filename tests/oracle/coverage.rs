@@ -31,10 +31,32 @@ const ROWS: [&str; 7] = [
     "pairs in order removed by a subscribe",
     "new pairs removed by a subscribe",
 ];
+// What becomes of the log's ring.
+const RING: [&str; 4] = [
+    "a call on a log in two pieces",
+    "an event pushed at place 0, behind the last",
+    "events forgotten over the last place",
+    "a line put in line while the log is in two pieces",
+];
 const LISTS: [&str; 5] = ["L 1", "L 16", "H 1", "H 5000", "from a market made by hand"];
 
 // Of a call, a record, a report, a list or a line's change: its word (for a change the old kind, then the new), and a refusal's number.
 type What = (&'static str, &'static str, &'static str, u64);
+
+// Where a store's log stands.
+#[derive(Clone, Copy)]
+pub struct Ring {
+    pub g: u64,
+    pub base: u64,
+    pub count: u64,
+    pub front: u64,
+}
+
+impl Ring {
+    fn in_two_pieces(&self) -> bool {
+        self.front + self.count > self.g
+    }
+}
 
 #[derive(Default)]
 pub struct Seen(BTreeMap<What, u64>);
@@ -97,6 +119,19 @@ impl Seen {
         }
     }
 
+    // The log's ring before a call and after it.
+    pub fn ring(&mut self, before: Ring, after: Ring, entered: bool) {
+        let pushed = after.base == before.base && after.count > before.count;
+        let place_0 = before.front + before.count <= before.g && after.in_two_pieces();
+        let forgotten = after.base > before.base && after.front < before.front;
+        let all = [before.in_two_pieces(), pushed && place_0, forgotten, entered && before.in_two_pieces()];
+        for (word, yes) in RING.into_iter().zip(all) {
+            if yes {
+                self.see(("ring", word, "", 0));
+            }
+        }
+    }
+
     // What a list starts from.
     pub fn list(&mut self, x: Limits, by_hand: bool) {
         for (word, yes) in LISTS.into_iter().zip([x.l == 1, x.l == MOST.l, x.h == 1, x.h == MOST.h, by_hand]) {
@@ -140,9 +175,10 @@ impl Seen {
         none
     }
 
-    // The same of the tables' rows and of what lists start from.
+    // The same of the tables' rows, of the log's ring and of what lists start from.
     pub fn lists(&self) -> Vec<String> {
-        let words = ROWS.map(|word| ("rows", word)).into_iter().chain(LISTS.map(|word| ("list", word)));
+        let rows = ROWS.map(|word| ("rows", word)).into_iter();
+        let words = rows.chain(RING.map(|word| ("ring", word))).chain(LISTS.map(|word| ("list", word)));
         let counts: Vec<_> = words.map(|(what, word)| (format!("{what}: {word}"), self.count((what, word, "", 0)))).collect();
         for (text, n) in &counts {
             println!("{n:>12}  {text}");

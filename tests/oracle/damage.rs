@@ -42,7 +42,7 @@ impl Places {
             .fold(0, |sum, at| w[at + 2].wrapping_add(sum));
         let room = x.g.wrapping_sub(items);
         let top = u64::MAX.wrapping_sub(w[6]).wrapping_sub(items);
-        match r.below(14) {
+        match r.below(15) {
             0 => {
                 (5, r.of(&[top, top.wrapping_add(1), top.wrapping_sub(1), w[5].wrapping_add(1), w[5].wrapping_sub(1), u64::MAX]))
             }
@@ -52,7 +52,8 @@ impl Places {
             5 | 6 => (10, r.of(&[0, x.c, x.c + 1, w[10].wrapping_add(1), w[10].wrapping_sub(1)])),
             7 | 8 => (11, r.of(&[0, x.d, x.d + 1, w[11].wrapping_add(1), w[11].wrapping_sub(1)])),
             9 if r.percent(50) => (12, edge(r, LAYOUT)),
-            9 => (r.between(15, 63) as usize, r.next()),
+            9 => (r.between(16, 63) as usize, r.next()),
+            12 => (15, r.of(&[0, x.g - 1, x.g, x.g + 1, w[15].wrapping_add(1), w[15].wrapping_sub(1), u64::MAX])),
             10 | 11 => {
                 let i = r.between(13, 14) as usize;
                 (i, r.of(&[0, 1, 512, 513, w[i].wrapping_add(1), w[i].wrapping_sub(1), u64::MAX]))

@@ -45,6 +45,7 @@ fn limits(r: &mut Random, list: u64) -> Limits {
     let tight = r.percent(15);
     let rows = r.percent(15);
     let many = r.percent(12);
+    let turning = r.percent(25);
     let x = Limits {
         l: r.of(&[1, 2, 2, 2, 3, 3, 3, 4, 4, 4]),
         h: match r.below(10) {
@@ -52,7 +53,12 @@ fn limits(r: &mut Random, list: u64) -> Limits {
             3 | 4 => r.between(6, 9),
             _ => r.between(1, 6),
         },
-        g: if tight { r.between(1, 12) } else { r.between(60, 200) },
+        g: match (tight, turning) {
+            (true, _) => r.between(1, 12),
+            // the log's ring turns often
+            (_, true) => r.between(12, 40),
+            _ => r.between(60, 200),
+        },
         c: if rows { r.between(1, 3) } else { r.between(6, 10) },
         d: if rows { r.between(1, 6) } else { r.between(20, 40) },
     };
@@ -86,7 +92,7 @@ pub fn setup(r: &mut Random, list: u64) -> Setup {
 pub fn list(r: &mut Random, s: &mut Setup, by_hand: u64, wrong: u64) -> Vec<Step> {
     let x = s.limits;
     let by_hand = r.percent(by_hand);
-    let length = if x.c > 20 { r.between(100, 600) } else { r.between(10, 200) };
+    let length = if x.c > 20 || x.g <= 40 { r.between(100, 600) } else { r.between(10, 200) };
     let mut maker = Maker::new(r, x);
     if by_hand {
         s.from = Some(maker.market(5));

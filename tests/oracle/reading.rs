@@ -97,7 +97,7 @@ pub fn reading(w: &[u64]) -> Result<Market, String> {
     }
     Ok(Market {
         base: w[5],
-        log: (0..w[6] as usize).map(|i| ((log[2 * i], log[2 * i + 1]), log[2 * g + i])).collect(),
+        log: (0..w[6] as usize).map(|i| (w[15] as usize + i) % g).map(|p| ((log[2 * p], log[2 * p + 1]), log[2 * g + p])).collect(),
         last_applied: (w[7] != 0).then_some(w[8]),
         keys,
         counts,

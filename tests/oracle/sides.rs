@@ -1,10 +1,10 @@
 // The two sides of a list, compared after every call.
 use crate::calling::Manner;
-use crate::coverage::Seen;
+use crate::coverage::{Ring, Seen};
 use crate::exported::{Lent, UNTOUCHED};
 use crate::lists::{keys_of, Setup, Step};
 use crate::original::{self, Put};
-use crate::reading::{reading, Market};
+use crate::reading::{reading, Line, Market};
 use crate::sound::sound;
 use crate::words::{Answer, Call, Key, Limits, Record};
 use crate::{merge, refusals};
@@ -85,6 +85,17 @@ fn rows(w: &[u64]) -> [(u64, u64); 2] {
     [(w[10], w[13]), (w[11], w[14])]
 }
 
+// Where the log stands.
+fn ring(w: &[u64]) -> Ring {
+    Ring { g: w[2], base: w[5], count: w[6], front: w[15] }
+}
+
+// Whether a line that was not in line is in line after the call.
+fn entered(before: &Market, after: &Market) -> bool {
+    let in_line = |m: &Market, conn| matches!(m.line(conn), Some(Line::InLine { .. }));
+    after.lines.keys().any(|&conn| in_line(after, conn) && !in_line(before, conn))
+}
+
 // The market that the sides agree on is kept.
 struct Sides<'a> {
     setup: &'a Setup,
@@ -132,7 +143,7 @@ impl Sides<'_> {
     }
 
     fn step(&mut self, step: &Step, keys: &HashMap<u64, (u64, Key)>, seen: &mut Seen) -> Result<(), String> {
-        let before = rows(&self.lent.store);
+        let before = (rows(&self.lent.store), ring(&self.lent.store));
         let p = self.proved(step)?;
         if p.refused != 0 {
             seen.note(&step.call, &p, &self.market, &self.market);
@@ -151,7 +162,8 @@ impl Sides<'_> {
             check_records(&p.records, keys, &self.market, &after)?;
         }
         seen.note(&step.call, &p, &self.market, &after);
-        seen.rows(&step.call, before, rows(&self.lent.store));
+        seen.rows(&step.call, before.0, rows(&self.lent.store));
+        seen.ring(before.1, ring(&self.lent.store), entered(&self.market, &after));
         self.market = after;
         Ok(())
     }

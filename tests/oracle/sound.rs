@@ -3,7 +3,7 @@
 use crate::words::{Limits, LAYOUT};
 
 // What can be wrong with a store.
-pub const FAULTS: [&str; 24] = [
+pub const FAULTS: [&str; 25] = [
     "shorter than a header",
     "limits out of range",
     "shorter than its limits need",
@@ -28,6 +28,7 @@ pub const FAULTS: [&str; 24] = [
     "more than 512 new rows",
     "a key stands in both runs",
     "a pair stands in both runs",
+    "front at G or beyond",
 ];
 
 pub fn sound(w: &[u64]) -> bool {
@@ -53,6 +54,7 @@ fn header(w: &[u64]) -> Result<Limits, usize> {
     let x = Limits::of(w);
     need(x.in_range(), 1)?;
     need(w.len() >= x.store(), 2)?;
+    need(w[15] < x.g, 24)?;
     need(w[6] <= x.g, 3)?;
     need(w[9] <= x.l, 4)?;
     need(w[13] <= 512 && w[14] <= 512, 21)?;

@@ -3,7 +3,7 @@
 pub type Key = (u64, u64);
 
 // The layout of a store, in word 12 of its header.
-pub const LAYOUT: u64 = 2;
+pub const LAYOUT: u64 = 3;
 
 #[derive(Clone, Copy, Debug, PartialEq)]
 pub struct Limits {

@@ -12,10 +12,12 @@ pub fn words(m: &Market, x: Limits, r: &mut Random) -> Vec<u64> {
     (w[7], w[8]) = stamp(m.last_applied, r);
     w[9] = m.lines.len() as u64;
     w[12] = LAYOUT;
+    w[15] = r.below(x.g);
     let (g, c, d) = (x.g as usize, x.c as usize, x.d as usize);
     for (i, (key, time)) in m.log.iter().enumerate() {
-        w[64 + 2 * i..][..2].copy_from_slice(&[key.0, key.1]);
-        w[64 + 2 * g + i] = *time;
+        let p = (w[15] as usize + i) % g;
+        w[64 + 2 * p..][..2].copy_from_slice(&[key.0, key.1]);
+        w[64 + 2 * g + p] = *time;
     }
     let at = 64 + 3 * g;
     let keys = m.keys.iter().map(|(key, (applied, touched))| [key.0, key.1, *applied, *touched]);

@@ -108,13 +108,15 @@ fn newcomer(f: &mut Feed, next: u64, ahead: bool) {
     f.drop_conn(4);
 }
 
-// Newcomers line up, one after the other, while three in line go on.
-fn join(log: u64, ahead: bool) -> Load {
+// Newcomers line up, one after the other, while three in line go on; the first `before` of them are not measured.
+fn join(log: u64, ahead: bool, before: u64) -> Load {
     let mut f = Feed::new();
     let mut next = f.in_line(3, log / 10);
     let (start, mut ticked) = (f.t, f.t);
-    f.part(true);
-    for cycle in 0..40 {
+    for cycle in 0..before + 40 {
+        if cycle == before {
+            f.part(true);
+        }
         newcomer(&mut f, next, ahead);
         next += 8;
         f.t = start + (cycle + 1) * 80_000 / log;
@@ -125,6 +127,15 @@ fn join(log: u64, ahead: bool) -> Load {
     }
     let (name, place) = if ahead { ("ahead", "3 events ahead") } else { ("behind", "2 events behind") };
     load(format!("{name}-{log}"), format!("newcomers {place}: 3 in line, log of {}", number(log)), f)
+}
+
+// The same where the log of a small event limit stands in two pieces, at the end of its area and at its start.
+fn join_turned(log: u64, ahead: bool) -> Load {
+    let mut load = join(log, ahead, log * 6 / 80);
+    load.name += "-turned";
+    load.what += ", in two pieces";
+    load.limits.events = log * 14 / 10;
+    load
 }
 
 // Three in line go on while a fourth holds events that fit nowhere.
@@ -157,23 +168,24 @@ fn quiet_ticks(log: u64, keys: u64) -> Load {
     with_keys(load(format!("tick-{log}-{keys}"), what, f), keys)
 }
 
-// Ticks that each forget a second's events.
-fn pruning_ticks(rate: u64) -> Load {
+// Ticks that each forget `gone` events of a log of ten seconds.
+fn pruning_ticks(rate: u64, gone: u64) -> Load {
     let mut f = Feed::new();
     let mut next = f.in_line(4, rate);
     for _ in 0..5 {
         f.part(false);
-        for number in next..next + rate {
+        for number in next..next + gone {
             f.t += 1_000 * (number + 1 - next) / rate - 1_000 * (number - next) / rate;
             for conn in 1..=4 {
                 f.event(conn, number);
             }
         }
-        next += rate;
+        next += gone;
         f.part(true);
         f.tick();
     }
-    load(format!("prune-{rate}"), format!("tick that forgets {} of {} events", number(rate), number(11 * rate)), f)
+    let name = if gone == rate { format!("prune-{rate}") } else { format!("prune-{gone}-{}", 10 * rate) };
+    load(name, format!("tick that forgets {} of {} events", number(gone), number(10 * rate + gone)), f)
 }
 
 fn storm_once(f: &mut Feed, conns: u64, next: &mut u64) {
@@ -248,8 +260,12 @@ pub fn all() -> Vec<(String, Make)> {
         add(format!("copies-{keys}"), Box::new(move || copies(keys)));
     }
     for log in [100, 1_000, 10_000, 100_000] {
-        add(format!("behind-{log}"), Box::new(move || join(log, false)));
-        add(format!("ahead-{log}"), Box::new(move || join(log, true)));
+        add(format!("behind-{log}"), Box::new(move || join(log, false, 0)));
+        add(format!("ahead-{log}"), Box::new(move || join(log, true, 0)));
+    }
+    for log in [1_000, 10_000] {
+        add(format!("behind-{log}-turned"), Box::new(move || join_turned(log, false)));
+        add(format!("ahead-{log}-turned"), Box::new(move || join_turned(log, true)));
     }
     for items in [10, 100, 1_000, 4_000] {
         add(format!("held-{items}"), Box::new(move || held(items)));
@@ -258,7 +274,10 @@ pub fn all() -> Vec<(String, Make)> {
         add(format!("tick-{log}-{keys}"), Box::new(move || quiet_ticks(log, keys)));
     }
     for rate in [40, 1_000, 10_000] {
-        add(format!("prune-{rate}"), Box::new(move || pruning_ticks(rate)));
+        add(format!("prune-{rate}"), Box::new(move || pruning_ticks(rate, rate)));
+    }
+    for rate in [1_000, 10_000] {
+        add(format!("prune-40-{}", 10 * rate), Box::new(move || pruning_ticks(rate, 40)));
     }
     add("storm-16".into(), Box::new(|| storm(16)));
     for keys in [100, 4_000] {
