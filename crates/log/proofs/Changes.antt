@@ -90,16 +90,16 @@ clear-done g w h =
     (log-entries g w r)
     (log-last g w r ∙ sym (log-last g w h))
 
--- a prune that drops k entries moves the front to the k-th's place p
-module _ {g k p : ℕ} {w : List ℕ} {h : Head} (fit : Fit g w h) (some : k ≤ h .count) (at : p ≡ entryPlace g (h .front) k) where
+-- a prune that drops k entries moves the front to p, the k-th's place where one is left
+module _ {g k p : ℕ} {w : List ℕ} {h : Head} (fit : Fit g w h) (some : k ≤ h .count) (below : p < g) (at : k < h .count → p ≡ entryPlace g (h .front) k) where
   abbrev left-head : Head
   left-head = record { base = h .base + k; count = h .count - k; last = h .last; front = p }
 
   pub prune-fit : Fit g w left-head
-  prune-fit = record { size = fit .size; count = omega arith; front = rw at (place-inside g (h .front) k (fit .front) (omega arith)) }
+  prune-fit = record { size = fit .size; count = omega arith; front = below }
 
   kept-entry : (i : ℕ) → i < h .count - k → entryAt g w p i ≡ entryAt g w (h .front) (k + i)
-  kept-entry i l = rw at (ap (entryIn g w) (place-on g (h .front) k i (fit .front) (omega arith)))
+  kept-entry i l = rw (at (omega arith)) (ap (entryIn g w) (place-on g (h .front) k i (fit .front) (omega arith)))
 
   pub prune-done : (t : ℕ) → k ≡ old t (logOf g w h .entries) → logOf g w left-head ≡ prune t (logOf g w h)
   prune-done t q =

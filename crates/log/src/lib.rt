@@ -124,6 +124,18 @@ fn count_old(area: &[u64], g: usize, head: Head, t: u64) -> usize
     i
 }
 
+// Where the first entry stands once k of them are gone: where it stood; the first place again where none is left, so that a quiet
+// market keeps to the first places.
+fn front_after(g: usize, front: usize, count: usize, k: usize) -> usize
+    requires { ⌜ (front < g) × ((k ≤ g) × (2 * g < 2 ^ 64)) ⌝ }
+    ensures { λ r. ⌜ (r < g) × (k < count → r ≡ entryPlace g front k) ⌝ }
+{
+    if k < count {
+        return place(g, front, k);
+    }
+    0
+}
+
 // Drops the entries at the front that are too old to stay; the numbers and places of the others stay theirs.
 pub fn prune(area: &[u64], g: usize, head: Head, t: u64) -> Head
     requires { ⌜ (Fit g (now area) head) × (head .base + head .count < 2 ^ 64) ⌝ }
@@ -134,7 +146,7 @@ pub fn prune(area: &[u64], g: usize, head: Head, t: u64) -> Head
     let base = head.base;
     let count = head.count;
     let last = head.last;
-    let front = place(g, head.front, k);
+    let front = front_after(g, head.front, count, k);
     Head {
         base: base + k as u64,
         count: count - k,

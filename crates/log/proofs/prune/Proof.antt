@@ -9,8 +9,8 @@ returns c =
     let d = c .before in
     let s = d .before .before in
     let fit = s .pre .0 in
-    let at = c .place .ensures .0 in
-    (prune-done fit (omega arith) at (s .args .t) (d .count-old .ensures .0), (prune-fit fit (omega arith) at, omega arith))
+    let f = c .front-after .ensures in
+    (prune-done fit (omega arith) (f .0) (f .1) (s .args .t) (d .count-old .ensures .0), (prune-fit fit (omega arith) (f .0) (f .1), omega arith))
 
 pub prune-spec : {M : Type 1} → statement M
 prune-spec = tie.close (tie.spec (λ c κs. search needs) (λ c κs. search needs) (λ c. search needs) (λ c. search needs) returns)
