@@ -53,7 +53,7 @@ impl Places {
             7 | 8 => (11, r.of(&[0, x.d, x.d + 1, w[11].wrapping_add(1), w[11].wrapping_sub(1)])),
             9 if r.percent(50) => (12, edge(r, LAYOUT)),
             9 => (r.between(16, 63) as usize, r.next()),
-            12 => (15, r.of(&[0, x.g - 1, x.g, x.g + 1, w[15].wrapping_add(1), w[15].wrapping_sub(1), u64::MAX])),
+            12 => (15, r.of(&[0, x.g.wrapping_sub(1), x.g, x.g.wrapping_add(1), w[15].wrapping_add(1), w[15].wrapping_sub(1), u64::MAX])),
             10 | 11 => {
                 let i = r.between(13, 14) as usize;
                 (i, r.of(&[0, 1, 512, 513, w[i].wrapping_add(1), w[i].wrapping_sub(1), u64::MAX]))

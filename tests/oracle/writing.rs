@@ -12,7 +12,7 @@ pub fn words(m: &Market, x: Limits, r: &mut Random) -> Vec<u64> {
     (w[7], w[8]) = stamp(m.last_applied, r);
     w[9] = m.lines.len() as u64;
     w[12] = LAYOUT;
-    w[15] = r.below(x.g);
+    w[15] = r.below(x.g.max(1));
     let (g, c, d) = (x.g as usize, x.c as usize, x.d as usize);
     for (i, (key, time)) in m.log.iter().enumerate() {
         let p = (w[15] as usize + i) % g;
