@@ -1,0 +1,9 @@
+pub mod Values
+pub mod Bytes
+pub mod Grammar
+pub mod Numbers
+pub mod Refusals
+pub mod Content
+pub mod Canonical
+pub mod Work
+pub mod Theorems

@@ -1,0 +1,132 @@
+// Places of names, put in order by merging.
+use crate::compare::Order;
+use crate::compare::compare;
+ghost use mathlib.Core.Path.{_≡_};
+ghost use Prim.Native.Nat.{_+_, _≤_, _<_};
+ghost use lib.ListN.{length};
+ghost use Rattle.json.specs.Refusals.{longest};
+ghost use Rattle.member_order.specs.Names.{nameAt};
+ghost use Rattle.member_order.specs.Order.{insertAll, ordered, run, Picks, Rising, Inside, Rewritten};
+
+// The next place of two runs, and how far each is read behind it.
+pub struct Picked {
+    pub place: u16,
+    pub i: usize,
+    pub j: usize,
+}
+
+fn wide(x: u16) -> usize
+    ensures { λ r. ⌜ r ≡ x ⌝ }
+{
+    x as usize
+}
+
+// Of two runs in order, the earlier a places from low on and the later b places from middle on, the next place.
+fn pick(
+    text: &[u8],
+    places: &[u16],
+    low: usize,
+    a: usize,
+    middle: usize,
+    b: usize,
+    i: usize,
+    j: usize,
+) -> Picked
+    requires { ⌜ (low + a ≤ length (now places)) × (middle + b ≤ length (now places)) × (i ≤ a) × (j ≤ b) × (i + j < a + b)
+        × Rising (nameAt (now text)) (run (now places) low a) × Rising (nameAt (now text)) (run (now places) middle b)
+        × Inside (now text) (run (now places) low a) × Inside (now text) (run (now places) middle b) × (length (now text) ≤ longest) ⌝ }
+    ensures { λ r. ⌜ Picks (nameAt (now (text .entry))) (run (now (places .entry)) low a) (run (now (places .entry)) middle b) i j r ⌝ }
+{
+    if i == a {
+        return Picked {
+            place: places[middle + j],
+            i,
+            j: j + 1,
+        };
+    }
+    let x = places[low + i];
+    if j == b {
+        return Picked {
+            place: x,
+            i: i + 1,
+            j,
+        };
+    }
+    let y = places[middle + j];
+    match compare(text, wide(x), wide(y)) {
+        Order::Before => Picked {
+            place: x,
+            i: i + 1,
+            j,
+        },
+        Order::Same => Picked {
+            place: y,
+            i: i + 1,
+            j: j + 1,
+        },
+        Order::After => Picked {
+            place: y,
+            i,
+            j: j + 1,
+        },
+    }
+}
+
+// The two runs merged, in front of merged; how many places that makes.
+fn merge(
+    text: &[u8],
+    places: &[u16],
+    merged: &mut [u16],
+    low: usize,
+    a: usize,
+    middle: usize,
+    b: usize,
+) -> usize
+    requires { ⌜ (low + a ≤ length (now places)) × (middle + b ≤ length (now places)) × (a + b ≤ length (now merged))
+        × Rising (nameAt (now text)) (run (now places) low a) × Rising (nameAt (now text)) (run (now places) middle b)
+        × Inside (now text) (run (now places) low a) × Inside (now text) (run (now places) middle b) × (length (now text) ≤ longest) ⌝ }
+    ensures { λ r. ⌜ (run (now (merged .exit)) 0 r
+        ≡ insertAll (nameAt (now (text .entry))) (run (now (places .entry)) low a) (run (now (places .entry)) middle b)) × (r ≤ a + b) ⌝ }
+{
+    let mut i: usize = 0;
+    let mut j: usize = 0;
+    let mut count: usize = 0;
+    while i + j < a + b {
+        let next = pick(text, places, low, a, middle, b, i, j);
+        merged[count] = next.place;
+        i = next.i;
+        j = next.j;
+        count += 1;
+    }
+    count
+}
+
+// The first n places of merged, from low on.
+fn copy_back(merged: &[u16], places: &mut [u16], low: usize, n: usize)
+    requires { ⌜ (n ≤ length (now merged)) × (low + n ≤ length (now places)) ⌝ }
+    ensures { λ r. ⌜ Rewritten (now (places .entry)) low n (run (now (merged .entry)) 0 n) (now (places .exit)) ⌝ }
+{
+    let mut i: usize = 0;
+    while i < n {
+        places[low + i] = merged[i];
+        i += 1;
+    }
+}
+
+// Puts the n places from low on in the order of their names, of each name the last; how many are left.
+pub fn sort(text: &[u8], places: &mut [u16], merged: &mut [u16], low: usize, n: usize) -> usize
+    requires { ⌜ (low + n ≤ length (now places)) × (n ≤ length (now merged)) × Inside (now text) (run (now places) low n)
+        × (length (now text) ≤ longest) ⌝ }
+    ensures { λ r. ⌜ Rewritten (now (places .entry)) low n (ordered (nameAt (now (text .entry))) (run (now (places .entry)) low n)) (now (places .exit))
+        × (r ≡ length (ordered (nameAt (now (text .entry))) (run (now (places .entry)) low n))) ⌝ }
+{
+    if n < 2 {
+        return n;
+    }
+    let half = n / 2;
+    let a = sort(text, places, merged, low, half);
+    let b = sort(text, places, merged, low + half, n - half);
+    let count = merge(text, places, merged, low, a, low + half, b);
+    copy_back(merged, places, low, count);
+    count
+}
