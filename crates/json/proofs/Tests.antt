@@ -15,6 +15,9 @@ same e = cc
 pub no-some : {A B : Type 0} {x : A} → _≡_ {A = Option A} none (some x) → B
 no-some e = absurd (none≢some e)
 
+pub and-true : (a b : Bool) → (a && b) ≡ true → (a ≡ true) × (b ≡ true)
+and-true a b h = (and-true-left a b h, and-true-right a b h)
+
 pub and-false : (a b : Bool) → b ≡ false → (a && b) ≡ false
 and-false true b e = e
 and-false false b e = refl

@@ -1,0 +1,4 @@
+pub mod Fronts
+pub mod TextRuns
+pub mod Literals
+pub mod RunsText
