@@ -14,7 +14,8 @@ use Rattle.json.specs.Grammar.{a-null, a-true, a-false, a-number, a-stri
 use Rattle.json.specs.Work.{byteAt}
 use Rattle.json.proofs.Tests.{within-low, outside-low}
 use Rattle.json.proofs.Spaces.{ws-skips, skip-front}
-use Rattle.json.proofs.NumberLaws.{goesOn, number-front}
+use Rattle.json.proofs.NumberLaws.{number-front}
+use Rattle.json.specs.Work.{goesOn}
 
 or-right : (a b : Bool) → b ≡ true → (a || b) ≡ true
 or-right true b e = refl

@@ -14,6 +14,7 @@ use Rattle.json.specs.Numbers.{Digits, no-digits, digit, Digits1, digits
 use Rattle.json.specs.Numbers.{Frac, no-frac, frac, Sign, no-sign, negative, positive, Exp, no-exp, exp, Number, number}
 use Rattle.json.specs.Work.{
   byteAt,
+  goesOn,
   skipDigits,
   digits1Rest,
   skipMinus,
@@ -27,10 +28,6 @@ use Rattle.json.specs.Work.{
 }
 use Rattle.rules.proofs.Tests.{or-false-left, or-false-right}
 use Rattle.json.proofs.Tests.{within-low, within-high, inside, digit-low, not-digit, same, no-some}
-
--- a byte by which a number in front of it may go on
-unfoldable pub goesOn : ℕ → Bool
-goesOn b = isDigit b || (eqb b 0x2E || (eqb b 0x65 || eqb b 0x45))
 
 pub record Stops (b : ℕ) : Type 0 where
   pub digit : isDigit b ≡ false

@@ -18,7 +18,8 @@ use Rattle.json.proofs.Inversion.{ItemsAt, at-item, MembersAt, at-membe
 use Rattle.json.proofs.Inversion.{val-null, val-true, val-false, val-string, val-number, val-array, val-object, no-val}
 use Rattle.json.proofs.Inversion.{array-ends, array-items, items-end, items-next, object-ends, object-members, members-end, members-next}
 use Rattle.json.proofs.NameLaws.{name-rest}
-use Rattle.json.proofs.NumberLaws.{goesOn, number-rest}
+use Rattle.json.proofs.NumberLaws.{number-rest}
+use Rattle.json.specs.Work.{goesOn}
 
 -- what begins as v up to r does is v, and ends there; of a value, where no number would go on
 abbrev OnlyVal : List ℕ → Value → List ℕ → Type 0
@@ -117,6 +118,11 @@ unfolding goesOn isDigit within
 text-one (text {v} a c e) (text {t} {u} {v = w} b d f) =
     let q = ws-one b a (val-ws d) (val-ws c) in
     val-one c (ws-ends e refl) w u (subst (λ (l : List ℕ). Val l w u) q d) (ws-ends f refl) .0
+
+pub val-only :
+    {s r q : List ℕ} {v w : Value} →
+    Val s v r → goesOn (byteAt r 0) ≡ false → Val s w q → goesOn (byteAt q 0) ≡ false → (v ≡ w) × (r ≡ q)
+val-only {q = q} {w = w} d g e h = val-one d g w q e h
 
 pub one-value : OneValue
 one-value t v w a b = text-one a b

@@ -101,6 +101,10 @@ andThen (some r) f = f r
 unfoldable pub numberRest : List ℕ → Option (List ℕ)
 numberRest s = andThen (andThen (intRest (skipMinus s)) fracRest) expRest
 
+-- a byte by which a number in front of it may go on
+unfoldable pub goesOn : ℕ → Bool
+goesOn b = isDigit b || (eqb b 0x2E || (eqb b 0x65 || eqb b 0x45))
+
 -- the bytes in front of r
 abbrev pub upTo : (r s : List ℕ) → List ℕ
 upTo r s = take (length s - length r) s

@@ -13,7 +13,8 @@ use Rattle.json.specs.Grammar.{a-null, a-true, a-false, a-number, a-string, emp
 use Rattle.json.specs.Refusals.{first}
 use Rattle.json.specs.Values.{Value, Items, Members}
 use Rattle.json.specs.Work.{byteAt}
-use Rattle.json.proofs.NumberLaws.{goesOn, number-front}
+use Rattle.json.proofs.NumberLaws.{number-front}
+use Rattle.json.specs.Work.{goesOn}
 
 -- ---- the first of faults
 pub first-zero : (g : ℕ) → first g 0 ≡ g

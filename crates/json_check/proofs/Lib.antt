@@ -2,3 +2,9 @@ pub mod Fronts
 pub mod TextRuns
 pub mod Literals
 pub mod RunsText
+pub mod Stacks
+pub mod StepLaws
+pub mod ValueSteps
+pub mod AfterSteps
+pub mod Readings
+pub mod Answers

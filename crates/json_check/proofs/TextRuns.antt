@@ -17,7 +17,8 @@ use Rattle.json.specs.Values.{Value, Items, Members}
 use Rattle.json.specs.Work.{byteAt, skipWs, upTo, wordRest, literalRest}
 use Rattle.json.proofs.Spaces.{ws-skips, skip-front}
 use Rattle.json.proofs.CharsLaws.{chars-rest}
-use Rattle.json.proofs.NumberLaws.{goesOn, number-rest, number-front, up-to-append}
+use Rattle.json.proofs.NumberLaws.{number-rest, number-front, up-to-append}
+use Rattle.json.specs.Work.{goesOn}
 use Rattle.json.proofs.NameLaws.{name-rest}
 use Rattle.json_check.proofs.Fronts.{
   first-zero,

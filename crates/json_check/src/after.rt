@@ -18,7 +18,7 @@ ghost use Rattle.json_check.specs.Steps.{stack, Inside, Ready, Stepped};
 // Behind an item of the innermost array and its ws: out of the array, or to its next item.
 fn item_step(text: &[u8], p: Place) -> Step
     requires { ⌜ Inside (now text) p × (0 < p .depth) ⌝ }
-    ensures { λ r. ⌜ ((opened : List Bool) (k : List Bool) → stack opened (p .depth) ≡ true ∷ k →
+    ensures { λ r. ⌜ ((opened : List Bool) (k : List Bool) → p .depth ≤ length opened → stack opened (p .depth) ≡ true ∷ k →
         Stepped (now (text .entry)) opened (p .at) (afterItem k (drop (p .at) (now (text .entry))) (p .found)) r) ⌝ }
 {
     let depth = p.depth;
@@ -44,7 +44,7 @@ fn item_step(text: &[u8], p: Place) -> Step
 // Behind a member of the innermost object and its ws: out of the object, or to its next member's value.
 fn member_step(text: &[u8], p: Place) -> Step
     requires { ⌜ Inside (now text) p × (0 < p .depth) × (length (now text) ≤ longest) ⌝ }
-    ensures { λ r. ⌜ ((opened : List Bool) (k : List Bool) → stack opened (p .depth) ≡ false ∷ k →
+    ensures { λ r. ⌜ ((opened : List Bool) (k : List Bool) → p .depth ≤ length opened → stack opened (p .depth) ≡ false ∷ k →
         Stepped (now (text .entry)) opened (p .at) (afterMember k (drop (p .at) (now (text .entry))) (p .found)) r) ⌝ }
 {
     let depth = p.depth;

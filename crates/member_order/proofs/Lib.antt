@@ -1,0 +1,12 @@
+pub mod TextLaws
+pub mod TextSteps
+pub mod DecodeLaws
+pub mod PeekLaws
+pub mod Before
+pub mod Insert
+pub mod Merging
+pub mod Runs
+pub mod Picking
+pub mod Merged
+pub mod Rewriting
+pub mod Sorting
