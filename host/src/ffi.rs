@@ -1,4 +1,4 @@
-//! The exported functions of `crates/exports`, `crates/owned` and `crates/depth_exports`. A slice is a pointer and a length; the slices
+//! The exported functions of `crates/exports`, `crates/owned`, `crates/depth_exports` and `crates/json_exports`. A slice is a pointer and a length; the slices
 //! and pointers of one call may not overlap. The answer of a call is a code, see `store.rs`.
 //!
 //! The `owned_` functions ask for a sound store and do not test it: words that setup made and that nobody but they wrote since. Those of a
@@ -121,4 +121,12 @@ extern "C" {
         count: usize,
         ceiling: u32,
     ) -> f64;
+    pub fn json_canonical(
+        text: *const u8,
+        length: usize,
+        out: *mut u8,
+        room: usize,
+        count: &mut u64,
+    ) -> u64;
+    pub fn json_key(text: *const u8, length: usize, key0: &mut u64, key1: &mut u64) -> u64;
 }

@@ -3,7 +3,7 @@ use crate::ffi;
 /// A message's identity: two words.
 ///
 /// The same message has the same key on every connection, and different messages have different ones; a key comes from a message's
-/// content, see [`EventKey::of_bytes`].
+/// content, see [`EventKey::of_json`] and [`EventKey::of_bytes`].
 #[derive(Clone, Copy, Debug, PartialEq, Eq, PartialOrd, Ord, Hash)]
 pub struct EventKey(u64, u64);
 

@@ -4,12 +4,13 @@
 //! the proved calls of this repository, linked as static libraries (`crates/exports`, `crates/owned`). See README.md for how to switch
 //! and for what differs.
 //!
-//! [`Depth`] is a token's price levels, with the functions of the original `market_data` module (`crates/depth_exports`).
+//! [`EventKey::of_json`] is the key of a JSON message (`crates/json_exports`). [`Depth`] is a token's price levels, with the functions of the original `market_data` module (`crates/depth_exports`).
 #![deny(missing_docs, unsafe_op_in_unsafe_fn)]
 #![warn(clippy::undocumented_unsafe_blocks)]
 
 mod depth;
 mod ffi;
+mod json;
 mod kept;
 mod key;
 mod limits;
@@ -21,6 +22,7 @@ mod store;
 mod types;
 
 pub use depth::{Depth, LevelRefusal};
+pub use json::{canonical_bytes, JsonRefusal};
 pub use key::EventKey;
 pub use limits::Limits;
 pub use merge::MarketMerge;

@@ -5,10 +5,11 @@ use std::process::Command;
 
 const HERE: &str = env!("CARGO_MANIFEST_DIR");
 const WARNINGS: [&str; 4] = ["-Wall", "-Wextra", "-pedantic", "-Werror"];
-const HEADERS: [&str; 3] = [
+const HEADERS: [&str; 4] = [
     "pollendrift.h",
     "pollendrift_owned.h",
     "pollendrift_depth.h",
+    "pollendrift_json.h",
 ];
 
 /// A compiler: its language, the variable that names it, and its name else.
@@ -108,6 +109,15 @@ fn owned() {
 #[test]
 fn depth() {
     prints("c/depth.c", "c/depth.expected");
+}
+
+#[test]
+fn json() {
+    let expected = std::fs::read_to_string(Path::new(HERE).join("c/json.expected")).expect("c/json.expected");
+    assert_eq!(
+        run(&build("c/json.c"), &["--sample"]),
+        (expected, String::new(), Some(0))
+    );
 }
 
 /// Each time the program ends with a reason.

@@ -1,0 +1,66 @@
+// The key of a message: of its canonical bytes, which are written beside it and not kept.
+use canonical::write_accepted;
+use json_check::refusal;
+use keys::key_of;
+use rules::EventKey;
+ghost use Prim.Native.Nat.{_≤_};
+ghost use lib.ListN.{length};
+ghost use Rattle.canonical.specs.Calls.{Message};
+ghost use Rattle.message_keys.specs.Keyed.{KeyOf, Answers};
+
+pub enum Keyed {
+    Key(EventKey),
+    Refused(u64),
+}
+
+// A message has at most five canonical bytes for each of its own.
+fn key_in_512(text: &[u8]) -> EventKey
+    requires { ⌜ Message (now text) × (length (now text) ≤ 512) ⌝ }
+    ensures { λ r. ⌜ KeyOf (now (text .entry)) r ⌝ }
+{
+    let mut out = [0u8; 2560];
+    let count = write_accepted(text, &mut out);
+    key_of(&out[0..count])
+}
+
+fn key_in_4096(text: &[u8]) -> EventKey
+    requires { ⌜ Message (now text) × (length (now text) ≤ 4096) ⌝ }
+    ensures { λ r. ⌜ KeyOf (now (text .entry)) r ⌝ }
+{
+    let mut out = [0u8; 20480];
+    let count = write_accepted(text, &mut out);
+    key_of(&out[0..count])
+}
+
+fn key_in_32768(text: &[u8]) -> EventKey
+    requires { ⌜ Message (now text) ⌝ }
+    ensures { λ r. ⌜ KeyOf (now (text .entry)) r ⌝ }
+{
+    let mut out = [0u8; 163840];
+    let count = write_accepted(text, &mut out);
+    key_of(&out[0..count])
+}
+
+fn key_of_accepted(text: &[u8]) -> EventKey
+    requires { ⌜ Message (now text) ⌝ }
+    ensures { λ r. ⌜ KeyOf (now (text .entry)) r ⌝ }
+{
+    if text.len() <= 512 {
+        return key_in_512(text);
+    }
+    if text.len() <= 4096 {
+        return key_in_4096(text);
+    }
+    key_in_32768(text)
+}
+
+// The key of a message, or the number of the refusal.
+pub fn key_of_json(text: &[u8]) -> Keyed
+    ensures { λ r. ⌜ Answers (now (text .entry)) r ⌝ }
+{
+    let number = refusal(text);
+    if number != 0 {
+        return Keyed::Refused(number);
+    }
+    Keyed::Key(key_of_accepted(text))
+}
