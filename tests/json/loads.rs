@@ -52,17 +52,17 @@ fn object(names: impl Iterator<Item = String>, length: usize) -> Vec<u8> {
     filled(out, length)
 }
 
-// Fifteen objects, each the second member of the one around it, with its names out of order, and an array of a kind inside.
+// Fourteen objects, each the second member of the one around it, with its names out of order, and an array of a kind inside.
 fn nested(item: &str, length: usize) -> Vec<u8> {
     let (open, close) = ("{\"b\":0,\"a\":", "}");
-    let mut out = open.repeat(15) + "[";
-    while out.len() + item.len() + 2 + 15 <= length {
+    let mut out = open.repeat(14) + "[";
+    while out.len() + item.len() + 2 + 14 <= length {
         out += item;
         out.push(',');
     }
     out.pop();
     out.push(']');
-    out += &close.repeat(15);
+    out += &close.repeat(14);
     filled(out, length)
 }
 
@@ -78,9 +78,9 @@ pub fn worst() -> Vec<(&'static str, Vec<u8>)> {
         ("16,383 digits in an array", filled(format!("[{}0]", "0,".repeat(16_382)), N)),
         ("10,922 empty arrays", filled(format!("[{}[]]", "[],".repeat(10_921)), N)),
         ("white space", filled("0".into(), N)),
-        ("empty arrays inside 15 objects", nested("[]", N)),
-        ("numbers inside 15 objects", nested("123456789", N)),
-        ("objects inside 15 objects", nested("{\"b\":0,\"a\":0}", N)),
+        ("empty arrays inside 14 objects", nested("[]", N)),
+        ("numbers inside 14 objects", nested("123456789", N)),
+        ("objects inside 14 objects", nested("{\"b\":0,\"a\":0}", N)),
         ("short names, falling", object((0..10_000u32).rev().map(|i| format!("{i:x}")), N)),
         ("short names, mixed", object((0..10_000u64).map(|i| format!("{:x}", i * 7919 % 10_007)), N)),
         ("one name again and again", object((0..10_000).map(|_| "a".into()), N)),

@@ -9,7 +9,7 @@ use borrow.Author.Tests.{lt-ltb, le-ltb, ne-eqb}
 use lib.Dec.{ltb, eqb}
 use lib.ListN.{drop}
 use Rattle.json.specs.Bytes.{within, plain, tail, firstOfThree, firstOfFour, escapeOf, hexOf, hexFour, isScalar, isHigh, isLow}
-use Rattle.json.specs.Work.{byteAt, hexAt, pairLen, escapeLen, utf8Len, charLen}
+use Rattle.json.specs.Work.{byteAt, hexAt, pairLen, escapeLen, utf8Len, specialLen, charLen}
 use Rattle.json.proofs.Bounds.{byte-drop}
 use Rattle.json.proofs.Tests.{within-high, outside-low}
 
@@ -89,6 +89,10 @@ module _ (t : List ℕ) (n : ℕ) where
   pub utf8-no-tail : within 0xC2 0xDF (byteAt t n) ≡ true → tail (byteAt t (n + 1)) ≡ false → 0 ≡ utf8Len (drop n t)
   utf8-no-tail h e = rw utf8-at (simp (e, and-false, two-not-three (byteAt t n) (byteAt t (n + 1)) h, two-not-four (byteAt t n) (byteAt t (n + 1)) h))
 
-  pub char-at : charLen (drop n t) ≡ cond (plain (byteAt t n)) 1 (cond (eqb (byteAt t n) 0x5C) (escapeLen (drop n t)) (utf8Len (drop n t)))
+  pub char-plain : plain (byteAt t n) ≡ true → 1 ≡ charLen (drop n t)
   unfolding charLen
-  char-at = rw byte-here
+  char-plain h = rw (byte-here, h)
+
+  pub char-special : plain (byteAt t n) ≡ false → specialLen (drop n t) ≡ charLen (drop n t)
+  unfolding charLen
+  char-special h = rw (byte-here, h)

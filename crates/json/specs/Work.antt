@@ -62,8 +62,11 @@ utf8Len s =
     (cond (firstOfFour (byteAt s 0) (byteAt s 1) && (tail (byteAt s 2) && tail (byteAt s 3))) 4
     0))
 
+abbrev pub specialLen : List ℕ → ℕ
+specialLen s = cond (eqb (byteAt s 0) 0x5C) (escapeLen s) (utf8Len s)
+
 unfoldable pub charLen : List ℕ → ℕ
-charLen s = cond (plain (byteAt s 0)) 1 (cond (eqb (byteAt s 0) 0x5C) (escapeLen s) (utf8Len s))
+charLen s = cond (plain (byteAt s 0)) 1 (specialLen s)
 
 -- what follows a string's closing mark; n bounds how many chars are read
 unfoldable pub charsFrom : ℕ → List ℕ → Option (List ℕ)

@@ -8,7 +8,7 @@ ghost use Prim.Native.Nat.{_+_, _≤_};
 ghost use lib.ListN.{length, drop};
 ghost use Rattle.json.specs.Bytes.{plain, tail, firstOfThree, firstOfFour, escapeOf, hexOf, isScalar, isHigh, isLow};
 ghost use Rattle.json.specs.Refusals.{longest};
-ghost use Rattle.json.specs.Work.{hexAt, pairLen, escapeLen, utf8Len, charLen, charsRest, Ends};
+ghost use Rattle.json.specs.Work.{hexAt, pairLen, escapeLen, utf8Len, specialLen, charLen, charsRest, Ends};
 
 // A byte that stands for itself in a string.
 pub fn plain(b: u32) -> bool
@@ -200,20 +200,27 @@ fn utf8_len(text: &[u8], at: usize) -> usize
     if first_of_four(a, b) { 4 } else { 0 }
 }
 
+// The length of the char at a place that is no plain byte, 0 where there is none.
+pub fn special_len(text: &[u8], at: usize) -> usize
+    requires { ⌜ at ≤ longest ⌝ }
+    ensures { λ r. ⌜ r ≡ specialLen (drop at (now (text .entry))) ⌝ }
+{
+    if byte(text, at) == 0x5C {
+        escape_len(text, at)
+    } else {
+        utf8_len(text, at)
+    }
+}
+
 // The length of the char at a place, 0 where there is none.
 pub fn char_len(text: &[u8], at: usize) -> usize
     requires { ⌜ at ≤ longest ⌝ }
     ensures { λ r. ⌜ r ≡ charLen (drop at (now (text .entry))) ⌝ }
 {
-    let b = byte(text, at);
-    if plain(b) {
+    if plain(byte(text, at)) {
         return 1;
     }
-    if b == 0x5C {
-        escape_len(text, at)
-    } else {
-        utf8_len(text, at)
-    }
+    special_len(text, at)
 }
 
 // The place behind the closing mark of the string whose first mark stands in front of at.

@@ -1,13 +1,16 @@
 -- One byte of a string at a cursor, and one byte of each of two strings.
 use mathlib.Core.Path.{_≡_, sym, _∙_, ap, subst}
-use mathlib.Core.Bool.{false}
-use mathlib.Core.List.{List, [], _∷_}
+use mathlib.Core.Bool.{true, false}
+use mathlib.Core.List.{List, [], _∷_, _++_}
 use Prim.Native.Nat.{ℕ, _+_, _≤_, _<_}
 use native.Mathlib.Omega.{arith}
 use lib.Dec.{eqb}
-use lib.ListN.{length, drop}
+use lib.ListN.{length, drop, getD}
 use lib.Seq.{drop-nil, drop-at}
+use Rattle.json.specs.Bytes.{plain}
 use Rattle.json.specs.Work.{byteAt, charLen}
+use Rattle.json.proofs.Bounds.{byte-at}
+use Rattle.json.proofs.Lengths.{char-plain}
 use Rattle.member_order.specs.declared.names.Decoded.{Decoded}
 use Rattle.member_order.specs.declared.names.Cursor.{Cursor}
 use Rattle.member_order.specs.declared.names.Peek.{Peek}
@@ -16,11 +19,28 @@ use Rattle.member_order.specs.declared.compare.Compared.{Compared}
 use Rattle.member_order.specs.declared.compare.Compared.the-variants as Compared
 use Rattle.member_order.specs.declared.compare.Order.{Order}
 use Rattle.member_order.specs.Names.{charText, charsText, leftAt, peeked, NextSits, orderOf, Decodes, Sits, Peeks, StepSays}
-use Rattle.member_order.proofs.TextSteps.{text-on, front-byte}
+use Rattle.member_order.proofs.TextSteps.{text-on, no-mark, plain-text, front-byte}
 use Rattle.member_order.proofs.DecodeLaws.{decoded-length, decoded-byte}
 
 pub peeks-ended : (t : List ℕ) (c : Cursor) → charsText (drop (c .at) t) ≡ [] → Peeks t (leftAt t c) Peek.End
 peeks-ended t c e = record { is = sym (ap (drop (c .k)) e ∙ drop-nil (c .k)); sits = tt }
+
+-- a plain byte stands for itself
+pub peeks-plain :
+    (t : List ℕ) (c : Cursor) → Sits t c → c .at < length t → (getD t (c .at) 0 ≡ 0x22 → ⊥) → plain (byteAt t (c .at)) ≡ true →
+    Peeks t (leftAt t c) (Peek.Byte (getD t (c .at) 0) (record { at = c .at + 1; k = 0 }))
+peeks-plain t c s h e p =
+    let at = c .at in
+    let text : charText (drop at t) ≡ byteAt t at ∷ [] = plain-text t at p in
+    let none : c .k ≡ 0 = omega (arith, s .inside, ap length text) in
+    let left : charsText (drop at t) ≡ byteAt t at ∷ charsText (drop (at + 1) t) =
+    text-on t at (no-mark t at h e) (char-plain t at p) (omega arith) ∙ ap (λ (x : List ℕ). x ++ charsText (drop (at + 1) t)) text in
+    record {
+      is =
+          ap (λ (b : ℕ). b ∷ charsText (drop (at + 1) t)) (byte-at t at h) ∙ sym left
+          ∙ ap (λ (k : ℕ). drop k (charsText (drop at t))) (sym none);
+      sits = record { fits = omega arith; inside = omega arith };
+    }
 
 -- the byte k of the char of n bytes at a place
 module _ (t : List ℕ) (at k n : ℕ) (d : Decoded) (h : Decodes (charText (drop at t)) d) (i : k < d .len) where

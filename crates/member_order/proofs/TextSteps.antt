@@ -1,6 +1,6 @@
 -- The bytes that a string stands for, at a place of a text.
 use mathlib.Core.Path.{_≡_, sym, _∙_, ap}
-use mathlib.Core.Bool.{false}
+use mathlib.Core.Bool.{true, false}
 use mathlib.Core.List.{List, [], _∷_, _++_}
 use Prim.Native.Nat.{ℕ, _+_, _≤_, _<_}
 use native.Mathlib.Omega.{arith}
@@ -8,6 +8,7 @@ use borrow.Author.Tests.{eq-eqb, ne-eqb}
 use lib.Dec.{eqb}
 use lib.ListN.{length, drop, getD, drop-of-length-le, length-append, List·getD-append}
 use lib.Seq.{drop-drop}
+use Rattle.json.specs.Bytes.{plain}
 use Rattle.json.specs.Work.{byteAt, charLen}
 use Rattle.json.proofs.Bounds.{byte-at, left-at}
 use Rattle.json.proofs.Lengths.{byte-here}
@@ -37,6 +38,10 @@ module _ (t : List ℕ) (i : ℕ) (h : i < length t) where
 
   pub text-stuck : {n : ℕ} → (getD t i 0 ≡ 0x22 → ⊥) → n ≡ charLen (drop i t) → n ≡ 0 → charsText (drop i t) ≡ []
   text-stuck e l z = text-bad (drop i t) (no-mark e) (sym l ∙ z)
+
+pub plain-text : (t : List ℕ) (i : ℕ) → plain (byteAt t i) ≡ true → charText (drop i t) ≡ byteAt t i ∷ []
+unfolding charText
+plain-text t i h = rw (byte-here t i, h)
 
 -- a byte of a first run
 pub front-byte : (x y : List ℕ) (k : ℕ) → k < length x → drop k (x ++ y) ≡ byteAt x k ∷ drop (k + 1) (x ++ y)

@@ -1,9 +1,10 @@
 // The bytes that the chars of a string stand for.
 use json::bytes::byte;
-use json::strings::char_len;
 use json::strings::escape_of;
 use json::strings::hex_at;
 use json::strings::is_scalar;
+use json::strings::plain;
+use json::strings::special_len;
 ghost use mathlib.Core.Path.{_≡_};
 ghost use mathlib.Core.Bool.{false};
 ghost use mathlib.Core.List.{[], _∷_};
@@ -176,7 +177,10 @@ pub fn next_byte(text: &[u8], c: Cursor) -> Peek
     if b == 0x22 {
         return Peek::End;
     }
-    let n = char_len(text, at);
+    if plain(byte(text, at)) {
+        return Peek::Byte(b, Cursor { at: at + 1, k: 0 });
+    }
+    let n = special_len(text, at);
     if n == 0 {
         return Peek::End;
     }
