@@ -10,7 +10,7 @@
  * output.
  *
  * Pointers  What one call is handed may not overlap, and none is NULL but that of an empty message. No call keeps a pointer.
- * Stack     A call takes up to 600 kB of it for the longest messages, up to 30 kB for those of at most 512 bytes.
+ * Stack     A call takes up to 400 kB of it, whatever the length of the message.
  * Threads   The library keeps nothing between calls.
  */
 #ifndef POLLENDRIFT_JSON_H

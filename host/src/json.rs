@@ -94,14 +94,8 @@ impl EventKey {
     pub fn of_json(message: &[u8]) -> Result<Self, JsonRefusal> {
         let (mut first, mut second) = (0, 0);
         // SAFETY: the call takes any bytes; the three are apart.
-        let done = unsafe {
-            ffi::json_key(
-                message.as_ptr(),
-                message.len(),
-                &mut first,
-                &mut second,
-            )
-        };
+        let done =
+            unsafe { ffi::json_key(message.as_ptr(), message.len(), &mut first, &mut second) };
         if done == 0 {
             return Err(JsonRefusal::of(first));
         }

@@ -113,7 +113,8 @@ fn depth() {
 
 #[test]
 fn json() {
-    let expected = std::fs::read_to_string(Path::new(HERE).join("c/json.expected")).expect("c/json.expected");
+    let expected =
+        std::fs::read_to_string(Path::new(HERE).join("c/json.expected")).expect("c/json.expected");
     assert_eq!(
         run(&build("c/json.c"), &["--sample"]),
         (expected, String::new(), Some(0))

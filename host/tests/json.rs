@@ -28,7 +28,10 @@ fn refusals() {
     assert_eq!(EventKey::of_json(b"\"\xC0\x80\""), Err(JsonRefusal::Text));
     assert_eq!(EventKey::of_json(&[b' '; 32_769]), Err(JsonRefusal::Text));
     assert_eq!(key("[0.5]"), Err(JsonRefusal::Number));
-    assert_eq!(key(&format!("{}{}", "[".repeat(17), "]".repeat(17))), Err(JsonRefusal::Depth));
+    assert_eq!(
+        key(&format!("{}{}", "[".repeat(17), "]".repeat(17))),
+        Err(JsonRefusal::Depth)
+    );
     assert_eq!(canonical_bytes(b"-0"), Err(JsonRefusal::Number));
     assert_eq!(JsonRefusal::Depth.number(), 17);
 }

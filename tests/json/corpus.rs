@@ -1,5 +1,6 @@
 // The messages of corpus.txt with their answers: the proved calls and the reference. PATH-OF-corpus.txt
 #[path = "exported.rs"]
+#[allow(dead_code)]
 mod exported;
 #[path = "reference.rs"]
 mod reference;

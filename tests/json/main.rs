@@ -1,6 +1,7 @@
 // The proved calls beside the reference, and beside serde_json and the original's `canonical` where those are at hand, on random messages.
 // MESSAGES SEED
 #[path = "exported.rs"]
+#[allow(dead_code)]
 mod exported;
 #[path = "messages.rs"]
 mod messages;
@@ -9,6 +10,7 @@ mod messages;
 #[allow(dead_code)]
 mod original;
 #[path = "../oracle/random.rs"]
+#[allow(dead_code)]
 mod random;
 #[path = "reference.rs"]
 mod reference;
