@@ -24,7 +24,7 @@ pub enum Answer {
     Refused(u64),
 }
 
-// The same, with room for the work.
+// Writes the canonical bytes of a message that is to be accepted; the lists of the work are lent.
 fn write_message(
     text: &[u8],
     ends: &mut [u16],
