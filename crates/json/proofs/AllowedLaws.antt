@@ -1,6 +1,6 @@
 -- Which numbers the rule has, from what their digits write.
 use mathlib.Core.Path.{_≡_, refl, sym, _∙_, ap}
-use mathlib.Core.Bool.{Bool, true, false, _&&_}
+use mathlib.Core.Bool.{Bool, true, false, _&&_, and-false}
 use mathlib.Core.List.{List, _∷_}
 use Prim.Native.Nat.{ℕ, _+_, _-_, _^_, _≤_, _<_}
 use native.Mathlib.Omega.{arith}
@@ -13,7 +13,7 @@ use Rattle.json.specs.Bytes.{within}
 use Rattle.json.specs.Refusals.{allDigits, decimal, allowed}
 use Rattle.json.specs.Work.{byteAt, pickDecimal, decimalOf}
 use Rattle.json.proofs.Bounds.{byte-at}
-use Rattle.json.proofs.DecimalLaws.{and-false, part-on}
+use Rattle.json.proofs.DecimalLaws.{part-on}
 
 -- a run of digits that writes n
 pub record Written (x : List ℕ) (n : ℕ) : Type 0 where

@@ -1,6 +1,6 @@
 -- What a run of digits writes, read from the front: behind digits that wrote n.
 use mathlib.Core.Path.{_≡_, refl, _∙_}
-use mathlib.Core.Bool.{Bool, true, false, _&&_}
+use mathlib.Core.Bool.{true, false, _&&_, and-false}
 use mathlib.Core.List.{List, [], _∷_}
 use Prim.Native.Nat.{ℕ, suc, _+_, _-_, _*_, _^_, _≤_, _<_}
 use native.Mathlib.Omega.{arith}
@@ -25,10 +25,6 @@ pub decimal-grows : (n : ℕ) (x : List ℕ) → n ≤ decimal n x
 unfolding decimal
 decimal-grows n [] = omega arith
 decimal-grows n (b ∷ x) = omega (arith, decimal-grows (n * 10 + (b - 0x30)) x)
-
-pub and-false : (a : Bool) → (a && false) ≡ false
-and-false true = refl
-and-false false = refl
 
 pub decimal-over : (n : ℕ) (x : List ℕ) → 2 ^ 64 ≤ n → decimalFrom n x ≡ Decimal.Outside
 unfolding decimalFrom

@@ -1,5 +1,5 @@
 -- The first byte of a value, and of what may follow one.
-use mathlib.Core.Path.{_≡_, refl, _∙_, ap}
+use mathlib.Core.Path.{_≡_, refl, ap}
 use mathlib.Core.Bool.{Bool, true, false, _||_}
 use mathlib.Core.List.{List, [], _∷_}
 use Prim.Native.Nat.{ℕ, zero, suc}
@@ -8,13 +8,12 @@ use lib.Dec.{eqb}
 use lib.ListN.{drop}
 use borrow.Author.Tests.{eqb-true, ne-eqb}
 use Rattle.json.specs.Bytes.{within, isWs, isDigit}
-use Rattle.json.specs.Grammar.{Ws, no-ws, ws, Name, name, Val, MoreItems, end-array, next-item, MoreMembers, end-object, next-member}
+use Rattle.json.specs.Grammar.{ws, name, Val}
 use Rattle.json.specs.Grammar.{a-null, a-true, a-false, a-number, a-string, empty-array, an-array, empty-object, an-object}
 use Rattle.json.specs.Refusals.{first}
-use Rattle.json.specs.Values.{Value, Items, Members}
+use Rattle.json.specs.Values.{Value}
 use Rattle.json.specs.Work.{byteAt}
 use Rattle.json.proofs.NumberLaws.{number-front}
-use Rattle.json.specs.Work.{goesOn}
 
 -- ---- the first of faults
 pub first-zero : (g : ℕ) → first g 0 ≡ g
@@ -74,38 +73,6 @@ val-front (empty-object w) = record { no-space = refl; no-bracket = refl; no-bra
 val-front (an-object w n v m) = record { no-space = refl; no-bracket = refl; no-brace = refl }
 
 -- a name begins with a quotation mark
-pub name-front : {s x r : List ℕ} → Name s x r → byteAt s 0 ≡ 0x22
-name-front (name c w u) = refl
-
--- ---- what follows a value
-ws-stops : (b : ℕ) → isWs b ≡ true → goesOn b ≡ false
-unfolding isWs goesOn isDigit within
-ws-stops b h = go (eqb b 0x20) (eqb b 0x09) (eqb b 0x0A) (eqb b 0x0D) refl refl refl refl h
-  where
-    is : (c : ℕ) → goesOn c ≡ false → eqb b c ≡ true → goesOn b ≡ false
-    is c q e = rw (eqb-true b c e) q
-
-    go : (p q r s : Bool) → eqb b 0x20 ≡ p → eqb b 0x09 ≡ q → eqb b 0x0A ≡ r → eqb b 0x0D ≡ s
-        → (p || (q || (r || s))) ≡ true → goesOn b ≡ false
-    go true q r s e f i j z = is 0x20 refl e
-    go false true r s e f i j z = is 0x09 refl f
-    go false false true s e f i j z = is 0x0A refl i
-    go false false false s e f i j z = is 0x0D refl (j ∙ z)
-
-pub ws-front : {s r : List ℕ} → Ws s r → goesOn (byteAt r 0) ≡ false → goesOn (byteAt s 0) ≡ false
-ws-front no-ws h = h
-ws-front (ws {b = b} e w) h = ws-stops b e
-
-pub items-front : {s r : List ℕ} {vs : Items} → MoreItems s vs r → goesOn (byteAt s 0) ≡ false
-unfolding goesOn isDigit within
-items-front (end-array w) = ws-front w refl
-items-front (next-item w x v m) = ws-front w refl
-
-pub members-front : {s r : List ℕ} {ms : Members} → MoreMembers s ms r → goesOn (byteAt s 0) ≡ false
-unfolding goesOn isDigit within
-members-front (end-object w) = ws-front w refl
-members-front (next-member w x n v m) = ws-front w refl
-
 -- bytes that begin with c
 pub begins : (s : List ℕ) (c : ℕ) → eqb 256 c ≡ false → eqb (byteAt s 0) c ≡ true → s ≡ c ∷ drop 1 s
 begins [] c h e = absurd (let z : _≡_ {A = ℕ} 0 1 = cc in omega arith)

@@ -20,17 +20,8 @@ use Rattle.json.proofs.CharsLaws.{chars-rest}
 use Rattle.json.proofs.NumberLaws.{number-rest, number-front, up-to-append}
 use Rattle.json.specs.Work.{goesOn}
 use Rattle.json.proofs.NameLaws.{name-rest}
-use Rattle.json_check.proofs.Fronts.{
-  first-zero,
-  first-assoc,
-  apart,
-  numeric,
-  val-front,
-  name-front,
-  ws-front,
-  items-front,
-  members-front,
-}
+use Rattle.json.proofs.Fronts.{name-mark, ws-ends, items-ends, members-ends}
+use Rattle.json_check.proofs.Fronts.{first-zero, first-assoc, apart, numeric, val-front}
 
 -- ---- the steps
 -- behind ws stands what follows it
@@ -43,7 +34,7 @@ skips-val w v = skips-to w (val-front v .no-space)
 
 skips-name : {s t x r : List ℕ} → Ws s t → Name t x r → skipWs s ≡ t
 unfolding isWs
-skips-name w n = skips-to w (rw (name-front n))
+skips-name w n = skips-to w (rw (name-mark n))
 
 module _ (k : List Bool) (g : ℕ) where
   number-step :
@@ -79,7 +70,7 @@ module _ (k : List Bool) (g : ℕ) where
       {s t x u r : List ℕ} {v : Value} →
       Ws s t → Name t x u → Val u v r → next (value k (0x7B ∷ s) g) ≡ go (value (false ∷ k) u (first g (depthFault (length k))))
   unfolding next ofValue inObject isDigit within
-  object-step w n v = rw (skips-name w n, name-front n, name-rest n (val-front v .no-space))
+  object-step w n v = rw (skips-name w n, name-mark n, name-rest n (val-front v .no-space))
 
   end-array-step : {s r : List ℕ} → Ws s (0x5D ∷ r) → next (after (true ∷ k) s g) ≡ go (after k r g)
   unfolding next ofAfter afterItem isWs
@@ -117,12 +108,12 @@ mutual
   runs-val (empty-array w) k g o h x = goes (empty-array-step k g w) (simp first-zero at x)
   runs-val (an-array w v m) k g o h x =
       goes (array-step k g w v)
-      (runs-val v (true ∷ k) _ o (items-front m)
+      (runs-val v (true ∷ k) _ o (items-ends m)
       (runs-items m k _ o (simp first-assoc x)))
   runs-val (empty-object w) k g o h x = goes (empty-object-step k g w) (simp first-zero at x)
   runs-val (an-object w n v m) k g o h x =
       goes (object-step k g w n v)
-      (runs-val v (false ∷ k) _ o (members-front m)
+      (runs-val v (false ∷ k) _ o (members-ends m)
       (runs-members m k _ o (simp first-assoc x)))
 
   runs-items :
@@ -132,7 +123,7 @@ mutual
   runs-items (end-array w) k g o x = goes (end-array-step k g w) (rw first-zero at x)
   runs-items (next-item w y v m) k g o x =
       goes (item-step k g w y v)
-      (runs-val v (true ∷ k) g o (items-front m)
+      (runs-val v (true ∷ k) g o (items-ends m)
       (runs-items m k _ o (simp first-assoc x)))
 
   runs-members :
@@ -142,14 +133,14 @@ mutual
   runs-members (end-object w) k g o x = goes (end-object-step k g w) (rw first-zero at x)
   runs-members (next-member w y n v m) k g o x =
       goes (member-step k g w y n v)
-      (runs-val v (false ∷ k) g o (members-front m)
+      (runs-val v (false ∷ k) g o (members-ends m)
       (runs-members m k _ o (simp first-assoc x)))
 
 -- ---- a text
 pub text-runs : {t : List ℕ} {v : Value} → Text t v → Run (start t) (some (fault 0 v))
 unfolding next ofAfter first goesOn isDigit within skipWs
 text-runs (text w v z) =
-    rw (skips-val w v) (runs-val v [] 0 _ (ws-front z refl) (ended (rw (ws-skips z))))
+    rw (skips-val w v) (runs-val v [] 0 _ (ws-ends z refl) (ended (rw (ws-skips z))))
 
 -- ---- one end
 pub run-one : {q : State} {o p : Option ℕ} → Run q o → Run q p → o ≡ p

@@ -6,7 +6,7 @@ use Rattle.canonical.proofs.canonical.Statement.{statement}
 use Rattle.canonical.proofs.canonical.Tie as tie
 
 returns : tie.Need-returns
-returns c = refused (no-room (c .if1 .taken))
+returns c = refused (no-room (omega (arith, c .if1 .taken)))
 
 returns-2 : tie.Need-returns-2
 returns-2 c =

@@ -1,3 +1,4 @@
+use native.Mathlib.Omega.{arith}
 use borrow.Author.Needs.{needs}
 use borrow.Author.Tests.{lt-leb, le-leb}
 use mathlib.Core.Path.{sym, _∙_}
@@ -13,7 +14,7 @@ returns c =
     let a = d .before .before .before .before .args in
     let n = c .before .before .n .given .0 .0 in
     let w = minus-within (a .text .now) (a .from) (a .to) (search needs) (search needs) (d .before .if1 .taken) n (cc) in
-    sym (w ∙ rw (lt-leb 1 n (c .if2 .taken)))
+    sym (w ∙ rw (lt-leb 1 n (omega (arith, c .if2 .taken))))
 
 returns-2 : tie.Need-returns-2
 unfolding within
@@ -22,7 +23,7 @@ returns-2 c =
     let a = d .before .before .before .before .args in
     let n = c .before .before .n .given .0 .0 in
     let w = minus-within (a .text .now) (a .from) (a .to) (search needs) (search needs) (d .before .if1 .taken) n (cc) in
-    sym (w ∙ rw (le-leb 1 n (c .if2 .left)))
+    sym (w ∙ rw (le-leb 1 n (omega (arith, c .if2 .left))))
 
 returns-3 : tie.Need-returns-3
 returns-3 c =
