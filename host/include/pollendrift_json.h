@@ -50,6 +50,9 @@ uint64_t json_canonical(const uint8_t *text, size_t length, uint8_t *out, size_t
 /* The key of a message. Refused: the number is in *key0, and *key1 is 0. */
 uint64_t json_key(const uint8_t *text, size_t length, uint64_t *key0, uint64_t *key1);
 
+/* The same; what it takes of the stack is that of the longest message. json_key calls it for a message of more than 4,096 bytes. */
+uint64_t json_long_key(const uint8_t *text, size_t length, uint64_t *key0, uint64_t *key1);
+
 #ifdef __cplusplus
 }
 #endif

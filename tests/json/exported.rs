@@ -3,6 +3,7 @@ extern "C" {
     fn json_refusal(text: *const u8, length: usize) -> u64;
     fn json_canonical(text: *const u8, length: usize, out: *mut u8, room: usize, count: &mut u64) -> u64;
     fn json_key(text: *const u8, length: usize, key0: &mut u64, key1: &mut u64) -> u64;
+    fn json_long_key(text: *const u8, length: usize, key0: &mut u64, key1: &mut u64) -> u64;
 }
 
 pub const LONGEST: usize = 32_768;
@@ -28,6 +29,16 @@ pub fn key(text: &[u8]) -> Result<(u64, u64), u64> {
     let (mut first, mut second) = (0, 0);
     // SAFETY: the call takes any bytes; the three are apart.
     match unsafe { json_key(text.as_ptr(), text.len(), &mut first, &mut second) } {
+        1 => Ok((first, second)),
+        _ => Err(first),
+    }
+}
+
+// The same by the call for long messages.
+pub fn long_key(text: &[u8]) -> Result<(u64, u64), u64> {
+    let (mut first, mut second) = (0, 0);
+    // SAFETY: the call takes any bytes; the three are apart.
+    match unsafe { json_long_key(text.as_ptr(), text.len(), &mut first, &mut second) } {
         1 => Ok((first, second)),
         _ => Err(first),
     }

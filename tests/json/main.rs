@@ -15,7 +15,7 @@ mod random;
 #[path = "reference.rs"]
 mod reference;
 
-use exported::{canonical, key, refusal, ROOM};
+use exported::{canonical, key, long_key, refusal, ROOM};
 use random::Random;
 use std::collections::BTreeMap;
 use std::hash::{DefaultHasher, Hasher};
@@ -118,6 +118,9 @@ fn main() {
         let words = expected.as_ref().map(|bytes| key_of(bytes)).map_err(|e| *e);
         if key(&message) != words {
             different("key", &message, &key(&message), &words);
+        }
+        if long_key(&message) != words {
+            different("long key", &message, &long_key(&message), &words);
         }
         beside_serde(&message, &expected, &mut parted);
     }

@@ -1,15 +1,1 @@
-pub mod WrittenLaws
-pub mod PutLaws
-pub mod MemberLaws
-pub mod Parts
-pub mod Spanning
-pub mod Scalars
-pub mod Arrays
-pub mod Objects
-pub mod Gathering
-pub mod ScalarLaws
 pub mod MessageLaws
-pub mod RankLaws
-pub mod ArrayLaws
-pub mod MemberSteps
-pub mod ObjectLaws

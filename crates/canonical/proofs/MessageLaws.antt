@@ -16,13 +16,13 @@ use Rattle.json.proofs.Fronts.{val-ws, ws-ends}
 use Rattle.json.proofs.OneValue.{val-only}
 use Rattle.json.proofs.Spaces.{ws-skips, skip-front}
 use Rattle.content.proofs.Fits.{val-fits}
-use Rattle.canonical.specs.declared.Spot.{Spot}
+use Rattle.writing.specs.declared.Spot.{Spot}
 use Rattle.canonical.specs.Calls.{Message, WroteMessage}
-use Rattle.canonical.specs.Places.{Spans}
-use Rattle.canonical.specs.Writing.{Writable, Wrote}
-use Rattle.canonical.proofs.Parts.{past-val, place-past}
-use Rattle.canonical.proofs.Spanning.{Skips}
-use Rattle.canonical.proofs.WrittenLaws.{written-front}
+use Rattle.writing.specs.Places.{Spans}
+use Rattle.writing.specs.Writing.{Writable, Wrote}
+use Rattle.writing.proofs.Parts.{past-val, place-past}
+use Rattle.writing.proofs.Spanning.{Skips}
+use Rattle.writing.proofs.WrittenLaws.{written-front}
 
 -- a text's value stands where skipping ws comes to
 text-spans : {t : List ℕ} {v : Value} (at : ℕ) → Text t v → Skips t 0 at → (e : ℕ) × (s : Spans t at e) × (s .value ≡ v)
@@ -45,9 +45,9 @@ text-spans {t} at (text {t = f} {u} {v} w d z) k =
 module _ (t : List ℕ) (at : ℕ) (m : Message t) (k : Skips t 0 at) where
   -- room for the text is room for its value; nothing is known yet
   pub message-writable :
-      (ends places merged out : List ℕ) → length t ≤ length ends → length t ≤ length places → length t ≤ length merged →
-      5 * length t ≤ length out → ((p : ℕ) → getD ends p 0 ≡ 0) → Writable t ends places merged out at 0 0
-  message-writable ends places merged out a b c d z =
+      (ends places merged names out : List ℕ) → length t ≤ length ends → length t ≤ length places → length t ≤ length merged →
+      length t ≤ length names → 5 * length t ≤ length out → ((p : ℕ) → getD ends p 0 ≡ 0) → Writable t ends places merged names out at 0 0
+  message-writable ends places merged names out a b c e d z =
       let f = text-spans at (m .text) k in
       let s = f .1 in
       record {
@@ -55,6 +55,7 @@ module _ (t : List ℕ) (at : ℕ) (m : Message t) (k : Skips t 0 at) where
         known = λ p h. absurd (omega (arith, z p));
         room-ends = a;
         room-merged = c;
+        room-names = e;
         end = f .0;
         spans = s;
         room-places = omega (arith, s .fits);
@@ -95,13 +96,13 @@ zeros-at (suc n) zero = refl
 zeros-at (suc n) (suc p) = zeros-at n p
 
 -- what writing a message asks for
-abbrev pub Asks : (t ends places merged out : List ℕ) → Type 0
-Asks t ends places merged out =
-    Message t × (length t ≤ length ends) × (length t ≤ length places) × (length t ≤ length merged) × (5 * length t ≤ length out)
-    × ((p : ℕ) → getD ends p 0 ≡ 0)
+abbrev pub Asks : (t ends places merged names out : List ℕ) → Type 0
+Asks t ends places merged names out =
+    Message t × (length t ≤ length ends) × (length t ≤ length places) × (length t ≤ length merged)
+    × (length t ≤ length names) × (5 * length t ≤ length out) × ((p : ℕ) → getD ends p 0 ≡ 0)
 
 pub zeros-suffice :
-    (n : ℕ) (t out : List ℕ) → Message t → length t ≤ n → 5 * length t ≤ length out → Asks t (zeros n) (zeros n) (zeros n) out
+    (n : ℕ) (t out : List ℕ) → Message t → length t ≤ n → 5 * length t ≤ length out → Asks t (zeros n) (zeros n) (zeros n) (zeros n) out
 zeros-suffice n t out m h k =
     let l : length t ≤ length (zeros n) = omega (arith, length-replicate {A = ℕ} n 0) in
-    (m, l, l, l, k, zeros-at n)
+    (m, l, l, l, l, k, zeros-at n)

@@ -44,7 +44,7 @@ chars-length : {s x r : List ℕ} → Chars s x r → length x + 1 + length r �
 chars-length mark = omega arith
 chars-length (char {x = x} {y = y} c d) = omega (arith, length-append x y, char-length c, chars-length d)
 
-name-length : {s x r : List ℕ} → Name s x r → length x + 3 + length r ≤ length s
+pub name-length : {s x r : List ℕ} → Name s x r → length x + 3 + length r ≤ length s
 name-length (name c w u) = omega (arith, chars-length c, ws-length w, ws-length u)
 
 -- ---- the parts of canonical bytes

@@ -1,15 +1,15 @@
 -- What the tests on bytes say, and that the ranges of first bytes are apart.
-use mathlib.Core.Path.{_≡_, refl, ap}
+use mathlib.Core.Path.{_≡_, ap}
 use mathlib.Core.List.{List, [], _∷_}
-use mathlib.Core.Bool.{Bool, true, false, _&&_, cond}
+use mathlib.Core.Bool.{Bool, true, false}
 use Prim.Native.Nat.{ℕ, _≤_, _<_}
 use native.Mathlib.Omega.{arith}
-use lib.Dec.{leb, eqb}
+use lib.Dec.{eqb}
 use lib.ListN.{drop}
-use borrow.Author.Tests.{leb-true, eqb-true, lt-leb, ne-eqb, le-ltb}
+use borrow.Author.Tests.{eqb-true, ne-eqb, le-ltb}
 use Rattle.json.specs.Bytes.{within, plain, tail, firstOfThree, firstOfFour, isScalar, isHigh}
 use Rattle.json.specs.Work.{byteAt}
-use Rattle.rules.proofs.Tests.{and-true-left, by-cond}
+use Rattle.rules.proofs.Tests.{and-true-left, and-true-right, by-cond}
 use Rattle.json.proofs.Tests.{within-low, within-high, outside-high, outside-low}
 
 -- a byte that the list begins with
@@ -40,6 +40,25 @@ four-first a b =
     (λ n. by-cond (λ (t : Bool). t ≡ true → 0xF0 ≤ a) (eqb a 0xF4)
     (λ e h. let q = eqb-true a 0xF4 e in omega arith)
     (λ m h. let l = within-low 0xF1 0xF3 a (and-true-left (within 0xF1 0xF3 a) (tail b) h) in omega arith))
+
+-- the second of three bytes, and of four
+pub three-second : (a b : ℕ) → firstOfThree a b ≡ true → 0x80 ≤ b
+unfolding firstOfThree tail
+three-second a b =
+    by-cond (λ (t : Bool). t ≡ true → 0x80 ≤ b) (eqb a 0xE0)
+    (λ e h. omega (arith, within-low 0xA0 0xBF b h))
+    (λ n. by-cond (λ (t : Bool). t ≡ true → 0x80 ≤ b) (eqb a 0xED)
+    (λ e. within-low 0x80 0x9F b)
+    (λ m h. within-low 0x80 0xBF b (and-true-right (within 0xE1 0xEF a) (tail b) h)))
+
+pub four-second : (a b : ℕ) → firstOfFour a b ≡ true → 0x80 ≤ b
+unfolding firstOfFour tail
+four-second a b =
+    by-cond (λ (t : Bool). t ≡ true → 0x80 ≤ b) (eqb a 0xF0)
+    (λ e h. omega (arith, within-low 0x90 0xBF b h))
+    (λ n. by-cond (λ (t : Bool). t ≡ true → 0x80 ≤ b) (eqb a 0xF4)
+    (λ e. within-low 0x80 0x8F b)
+    (λ m h. within-low 0x80 0xBF b (and-true-right (within 0xF1 0xF3 a) (tail b) h)))
 
 pub above-three : (a b : ℕ) → 0xF0 ≤ a → firstOfThree a b ≡ false
 unfolding firstOfThree

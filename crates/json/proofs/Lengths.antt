@@ -1,9 +1,9 @@
 -- Lengths of what stands at a place of a text, and the tests that they are made of.
-use mathlib.Core.Path.{_≡_, _∙_, ap}
+use mathlib.Core.Path.{_≡_}
 use mathlib.Core.Bool.{true, false, _&&_, cond, and-false}
 use mathlib.Core.List.{List}
 use Prim.Native.Nat.{ℕ, _+_, _*_, _≤_, _<_}
-use native.Mathlib.Nat.{add-assoc, add-zero}
+use native.Mathlib.Nat.{add-assoc}
 use native.Mathlib.Omega.{arith}
 use borrow.Author.Tests.{lt-ltb, le-ltb, ne-eqb}
 use lib.Dec.{ltb, eqb}
@@ -11,6 +11,7 @@ use lib.ListN.{drop}
 use Rattle.json.specs.Bytes.{within, plain, tail, firstOfThree, firstOfFour, escapeOf, hexOf, hexFour, isScalar, isHigh, isLow}
 use Rattle.json.specs.Work.{byteAt, hexAt, pairLen, escapeLen, utf8Len, specialLen, charLen}
 use Rattle.json.proofs.Bounds.{byte-drop}
+use Rattle.json.proofs.Places.{byte-here}
 use Rattle.json.proofs.Tests.{within-high, outside-low}
 
 -- what four digits write, by the digits that are read
@@ -59,9 +60,6 @@ module _ (a b : ℕ) (h : within 0xC2 0xDF a ≡ true) where
 
 -- at a place of a text
 module _ (t : List ℕ) (n : ℕ) where
-  pub byte-here : byteAt (drop n t) 0 ≡ byteAt t n
-  byte-here = byte-drop n t 0 ∙ ap (byteAt t) (add-zero n)
-
   pub hex-drop : (i : ℕ) → hexAt (drop n t) i ≡ hexAt t (n + i)
   hex-drop i = simp (byte-drop, add-assoc)
 
@@ -84,15 +82,15 @@ module _ (t : List ℕ) (n : ℕ) where
       (cond (firstOfThree (byteAt t n) (byteAt t (n + 1)) && tail (byteAt t (n + 2))) 3
       (cond (firstOfFour (byteAt t n) (byteAt t (n + 1)) && (tail (byteAt t (n + 2)) && tail (byteAt t (n + 3)))) 4 0))
   unfolding utf8Len
-  utf8-at = rw (byte-here, byte-drop n t 1, byte-drop n t 2, byte-drop n t 3)
+  utf8-at = rw (byte-here t n, byte-drop n t 1, byte-drop n t 2, byte-drop n t 3)
 
   pub utf8-no-tail : within 0xC2 0xDF (byteAt t n) ≡ true → tail (byteAt t (n + 1)) ≡ false → 0 ≡ utf8Len (drop n t)
   utf8-no-tail h e = rw utf8-at (simp (e, and-false, two-not-three (byteAt t n) (byteAt t (n + 1)) h, two-not-four (byteAt t n) (byteAt t (n + 1)) h))
 
   pub char-plain : plain (byteAt t n) ≡ true → 1 ≡ charLen (drop n t)
   unfolding charLen
-  char-plain h = rw (byte-here, h)
+  char-plain h = rw (byte-here t n, h)
 
   pub char-special : plain (byteAt t n) ≡ false → specialLen (drop n t) ≡ charLen (drop n t)
   unfolding charLen
-  char-special h = rw (byte-here, h)
+  char-special h = rw (byte-here t n, h)

@@ -1,4 +1,5 @@
 pub mod Bounds
+pub mod Places
 pub mod Tests
 pub mod Spaces
 pub mod ByteLaws
@@ -7,6 +8,7 @@ pub mod CharKinds
 pub mod CharFound
 pub mod CharLaws
 pub mod CharsLaws
+pub mod Marks
 pub mod NumberLaws
 pub mod NameLaws
 pub mod Fronts
@@ -15,7 +17,6 @@ pub mod OneValue
 pub mod Lengths
 pub mod StringSteps
 pub mod DigitSteps
-pub mod Places
 pub mod EndLaws
 pub mod NumberSteps
 pub mod NameSteps

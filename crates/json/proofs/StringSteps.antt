@@ -12,20 +12,20 @@ use lib.Seq.{drop-drop}
 use Rattle.json.specs.Work.{byteAt, charLen, charsFrom, charsRest}
 use Rattle.json.proofs.Bounds.{byte-at}
 use Rattle.json.proofs.CharSteps.{char-fits, chars-mark, chars-more, chars-bad}
-use Rattle.json.proofs.Lengths.{byte-here}
+use Rattle.json.proofs.Places.{byte-here}
 
 pub chars-over : (t : List ℕ) (i : ℕ) → length t ≤ i → charsRest (drop i t) ≡ none
 unfolding charsRest charsFrom
 chars-over t i h = rw (drop-of-length-le t {i = i} h)
 
 module _ (t : List ℕ) (i : ℕ) (h : i < length t) where
-  front : byteAt (drop i t) 0 ≡ getD t i 0
+  pub front : byteAt (drop i t) 0 ≡ getD t i 0
   front = byte-here t i ∙ sym (byte-at t i h)
 
   pub chars-closed : getD t i 0 ≡ 0x22 → charsRest (drop i t) ≡ some (drop (i + 1) t)
   chars-closed e = chars-mark (drop i t) (eq-eqb _ 0x22 (front ∙ e)) ∙ ap some (drop-drop 1 i t)
 
-  no-mark : (getD t i 0 ≡ 0x22 → ⊥) → eqb (byteAt (drop i t) 0) 0x22 ≡ false
+  pub no-mark : (getD t i 0 ≡ 0x22 → ⊥) → eqb (byteAt (drop i t) 0) 0x22 ≡ false
   no-mark e = ne-eqb _ 0x22 (λ q. e (sym front ∙ q))
 
   pub chars-stuck : {n : ℕ} → (getD t i 0 ≡ 0x22 → ⊥) → n ≡ charLen (drop i t) → n ≡ 0 → charsRest (drop i t) ≡ none

@@ -77,6 +77,11 @@ charsFrom (suc n) s =
 unfoldable pub charsRest : List ℕ → Option (List ℕ)
 charsRest s = charsFrom (length s) s
 
+-- from the first mark or backslash on
+unfoldable pub toMark : List ℕ → List ℕ
+toMark [] = []
+toMark (b ∷ s) = cond (eqb b 0x22 || eqb b 0x5C) (b ∷ s) (toMark s)
+
 -- numbers: at the longest
 unfoldable pub digits1Rest : List ℕ → Option (List ℕ)
 digits1Rest s = cond (isDigit (byteAt s 0)) (some (skipDigits (drop 1 s))) none

@@ -4,11 +4,13 @@ use crate::bytes::byte;
 use crate::bytes::within;
 ghost use mathlib.Core.Path.{_≡_};
 ghost use mathlib.Core.Bool.{_&&_};
-ghost use Prim.Native.Nat.{_+_, _≤_};
+ghost use mathlib.Core.List.{List};
+ghost use mathlib.Core.Option.{some};
+ghost use Prim.Native.Nat.{ℕ, _+_, _≤_};
 ghost use lib.ListN.{length, drop};
 ghost use Rattle.json.specs.Bytes.{plain, tail, firstOfThree, firstOfFour, escapeOf, hexOf, isScalar, isHigh, isLow};
 ghost use Rattle.json.specs.Refusals.{longest};
-ghost use Rattle.json.specs.Work.{hexAt, pairLen, escapeLen, utf8Len, specialLen, charLen, charsRest, Ends};
+ghost use Rattle.json.specs.Work.{hexAt, pairLen, escapeLen, utf8Len, specialLen, charsRest, toMark, Ends};
 
 // A byte that stands for itself in a string.
 pub fn plain(b: u32) -> bool
@@ -212,15 +214,23 @@ pub fn special_len(text: &[u8], at: usize) -> usize
     }
 }
 
-// The length of the char at a place, 0 where there is none.
-pub fn char_len(text: &[u8], at: usize) -> usize
-    requires { ⌜ at ≤ longest ⌝ }
-    ensures { λ r. ⌜ r ≡ charLen (drop at (now (text .entry))) ⌝ }
+// The first place from at on that holds a mark or a backslash.
+fn next_mark(text: &[u8], at: usize) -> usize
+    requires { ⌜ at ≤ length (now text) ⌝ }
+    ensures { λ r. ⌜ (drop r (now (text .entry)) ≡ toMark (drop at (now (text .entry)))) × (at ≤ r) × (r ≤ length (now (text .entry))) ⌝ }
 {
-    if plain(byte(text, at)) {
-        return 1;
+    let mut i = at;
+    while i < text.len() {
+        let b = text[i];
+        if b == 0x22 {
+            return i;
+        }
+        if b == 0x5C {
+            return i;
+        }
+        i += 1;
     }
-    special_len(text, at)
+    i
 }
 
 // The place behind the closing mark of the string whose first mark stands in front of at.
@@ -233,11 +243,38 @@ pub fn string_end(text: &[u8], at: usize) -> End
         if text[i] == 0x22 {
             return End::At(i + 1);
         }
-        let n = char_len(text, i);
-        if n == 0 {
-            return End::Nowhere;
+        if plain(byte(text, i)) {
+            i += 1;
+        } else {
+            let n = special_len(text, i);
+            if n == 0 {
+                return End::Nowhere;
+            }
+            i += n;
         }
-        i += n;
     }
     End::Nowhere
+}
+
+// The same of a string that is known to be one: only its closing mark is looked for, and what stands behind a backslash is passed over.
+pub fn skip_string(text: &[u8], at: usize) -> usize
+    requires { ⌜ at ≤ length (now text) ⌝ }
+    ensures { λ r. ⌜ (at ≤ r) × (r ≤ length (now (text .entry)))
+        × ((s : List ℕ) → charsRest (drop at (now (text .entry))) ≡ some s → drop r (now (text .entry)) ≡ s) ⌝ }
+{
+    let mut i = at;
+    while i < text.len() {
+        i = next_mark(text, i);
+        if i == text.len() {
+            return i;
+        }
+        if text[i] == 0x22 {
+            return i + 1;
+        }
+        i += 1;
+        if i < text.len() {
+            i += 1;
+        }
+    }
+    i
 }

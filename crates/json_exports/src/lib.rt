@@ -34,12 +34,11 @@ pub extern "C" fn json_canonical(text: &[u8], out: &mut [u8], count: &mut u64) -
     }
 }
 
-// The key of a message.
-#[no_mangle]
-pub extern "C" fn json_key(text: &[u8], key0: &mut u64, key1: &mut u64) -> u64
-    ensures { λ r. ⌜ ((a : Keyed) × Answers (now (text .entry)) a × TellsKey a r (now (key0 .exit)) (now (key1 .exit))) ⌝ }
+// What is told of a key.
+fn tell(keyed: Keyed, key0: &mut u64, key1: &mut u64) -> u64
+    ensures { λ r. ⌜ TellsKey keyed r (now (key0 .exit)) (now (key1 .exit)) ⌝ }
 {
-    match message_keys::key_of_json(text) {
+    match keyed {
         Keyed::Key(key) => {
             *key0 = key.0;
             *key1 = key.1;
@@ -51,4 +50,23 @@ pub extern "C" fn json_key(text: &[u8], key0: &mut u64, key1: &mut u64) -> u64
             0
         }
     }
+}
+
+// The key of a message of any length. Exported, so that what it needs of the stack is not taken by json_key too.
+#[no_mangle]
+pub extern "C" fn json_long_key(text: &[u8], key0: &mut u64, key1: &mut u64) -> u64
+    ensures { λ r. ⌜ ((a : Keyed) × Answers (now (text .entry)) a × TellsKey a r (now (key0 .exit)) (now (key1 .exit))) ⌝ }
+{
+    tell(message_keys::key_of_json(text), key0, key1)
+}
+
+// The key of a message.
+#[no_mangle]
+pub extern "C" fn json_key(text: &[u8], key0: &mut u64, key1: &mut u64) -> u64
+    ensures { λ r. ⌜ ((a : Keyed) × Answers (now (text .entry)) a × TellsKey a r (now (key0 .exit)) (now (key1 .exit))) ⌝ }
+{
+    if 4096 < text.len() {
+        return json_long_key(text, key0, key1);
+    }
+    tell(message_keys::key_of_short(text), key0, key1)
 }

@@ -21,15 +21,15 @@ before-not-itself [] = refl
 before-not-itself (a ∷ x) = rw (le-ltb a a (omega arith)) (before-not-itself x)
 
 -- by the first bytes
-before-less : (a b : ℕ) (x y : List ℕ) → a < b → before (a ∷ x) (b ∷ y) ≡ true
+pub before-less : (a b : ℕ) (x y : List ℕ) → a < b → before (a ∷ x) (b ∷ y) ≡ true
 unfolding before
 before-less a b x y h = rw (lt-ltb a b h)
 
-before-more : (a b : ℕ) (x y : List ℕ) → b < a → before (a ∷ x) (b ∷ y) ≡ false
+pub before-more : (a b : ℕ) (x y : List ℕ) → b < a → before (a ∷ x) (b ∷ y) ≡ false
 unfolding before
 before-more a b x y h = rw (le-ltb a b (omega arith), lt-ltb b a h)
 
-before-equal : (a b : ℕ) (x y : List ℕ) → a ≡ b → before (a ∷ x) (b ∷ y) ≡ before x y
+pub before-equal : (a b : ℕ) (x y : List ℕ) → a ≡ b → before (a ∷ x) (b ∷ y) ≡ before x y
 unfolding before
 before-equal a b x y h = rw (le-ltb a b (omega arith), le-ltb b a (omega arith))
 

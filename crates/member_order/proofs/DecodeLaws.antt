@@ -7,7 +7,6 @@ use native.Mathlib.Omega.{arith}
 use borrow.Author.Tests.{ltb-true}
 use lib.Dec.{ltb, eqb}
 use lib.ListN.{length, take, drop, length-take, length-drop}
-use lib.Seq.{getD-take}
 use Rattle.json.specs.Bytes.{within, plain, tail, firstOfThree, firstOfFour, escapeOf, isScalar, isHigh, isLow}
 use Rattle.json.specs.Work.{byteAt, hexAt, pairLen, escapeLen, utf8Len, charLen}
 use Rattle.json.proofs.Bounds.{byte-drop}
@@ -107,10 +106,6 @@ module _ {x : List ℕ} {d : Decoded} (h : Decodes x d) where
   decoded-length =
       let m = h .most in
       omega (arith, ap length (h .is), length-take (d .len) (d .b0 ∷ d .b1 ∷ d .b2 ∷ d .b3 ∷ []))
-
-  pub decoded-byte : (k : ℕ) → k < d .len → byteAt (d .b0 ∷ d .b1 ∷ d .b2 ∷ d .b3 ∷ []) k ≡ byteAt x k
-  decoded-byte k l =
-      sym (getD-take (d .len) (d .b0 ∷ d .b1 ∷ d .b2 ∷ d .b3 ∷ []) k 256 l) ∙ ap (λ (z : List ℕ). byteAt z k) (h .is)
 
 -- a char that is no escape, from the bytes that are read at its place
 module _ (t : List ℕ) (at n : ℕ) (e : eqb (byteAt (drop at t) 0) 0x5C ≡ false) (l : n ≡ charLen (drop at t)) (p : 0 < n) where

@@ -2,7 +2,7 @@
 use mathlib.Core.Path.{_≡_, refl, sym, _∙_, ap}
 use mathlib.Core.Bool.{true}
 use mathlib.Core.List.{List, [], _∷_, _++_}
-use Prim.Native.Nat.{ℕ, zero, suc, _+_, _≤_, _<_, suc-le-suc}
+use Prim.Native.Nat.{ℕ, zero, suc, _<_, suc-le-suc}
 use native.Mathlib.Nat.{not-suc-le-zero, le-of-suc-le-suc}
 use native.Mathlib.Omega.{arith}
 use lib.ListN.{length, getD}
@@ -123,22 +123,6 @@ module _ (name : ℕ → List ℕ) where
   pub ordered-append : (x y : List ℕ) → ordered name (x ++ y) ≡ insertAll name (ordered name x) (ordered name y)
   ordered-append x y = insertAll-append x y [] ∙ sym (insertAll-ordered x (ordered name y))
 
-  -- ---- how many
-  length-insert : (p : ℕ) (x : List ℕ) → length (insert name p x) ≤ suc (length x)
-  unfolding insert
-  length-insert p [] = omega arith
-  length-insert p (q ∷ x) = go (lies (name p) (name q)) (length-insert p x)
-    where
-      go : Lies (name p) (name q) → length (insert name p x) ≤ suc (length x) → length (insert name p (q ∷ x)) ≤ suc (suc (length x))
-      go (first k) ih = rw (insert-first p q x k) (omega arith)
-      go (same k) ih = rw (insert-same p q x k) (omega arith)
-      go (later k) ih = rw (insert-later p q x k) (omega arith)
-
-  pub length-insertAll : (x y : List ℕ) → length (insertAll name x y) ≤ length x + length y
-  unfolding insertAll
-  length-insertAll [] y = omega arith
-  length-insertAll (p ∷ x) y = omega (arith, length-insert p (insertAll name x y), length-insertAll x y)
-
   -- ---- which
   pub each-insert : (P : ℕ → Type 0) (p : ℕ) (x : List ℕ) → P p → Each P x → Each P (insert name p x)
   unfolding insert
@@ -155,3 +139,21 @@ module _ (name : ℕ → List ℕ) where
   each-insertAll P [] y f g = g
   each-insertAll P (p ∷ x) y f g =
       each-insert P p (insertAll name x y) (each-head P p x f) (each-insertAll P x y (each-tail P p x f) g)
+
+-- ---- only the names of these places are looked at
+module _ (f g : ℕ → List ℕ) where
+  insert-same-names :
+      (p : ℕ) (x : List ℕ) → f p ≡ g p → Each (λ q. f q ≡ g q) x → insert f p x ≡ insert g p x
+  unfolding insert
+  insert-same-names p [] a e = refl
+  insert-same-names p (q ∷ x) a e =
+      rw (a, each-head (λ q. f q ≡ g q) q x e, insert-same-names p x a (each-tail (λ q. f q ≡ g q) q x e))
+
+  pub ordered-same : (qs : List ℕ) → ((i : ℕ) → i < length qs → f (getD qs i 0) ≡ g (getD qs i 0)) → ordered f qs ≡ ordered g qs
+  unfolding insertAll
+  ordered-same [] e = refl
+  ordered-same (p ∷ x) e =
+      let P : ℕ → Type 0 = λ q. f q ≡ g q in
+      let rest : Each P x = each-tail P p x e in
+      insert-same-names p (ordered f x) (each-head P p x e) (each-insertAll f P x [] rest (each-nil P))
+      ∙ ap (insert g p) (ordered-same x rest)

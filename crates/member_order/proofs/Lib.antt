@@ -1,8 +1,8 @@
 pub mod TextLaws
 pub mod TextSteps
 pub mod DecodeLaws
-pub mod PeekLaws
 pub mod Before
+pub mod NameSteps
 pub mod Insert
 pub mod Merging
 pub mod Runs

@@ -7,7 +7,6 @@ use native.Mathlib.Omega.{arith}
 use lib.ListN.{length, take, drop, getD, length-take, length-drop, drop-of-length-le}
 use lib.Seq.{drop-cons, getD-take, getD-drop, take-take, take-add, drop-drop}
 use Rattle.member_order.specs.Order.{run}
-use Rattle.member_order.proofs.Insert.{Each}
 
 module _ (w : List ℕ) (from n : ℕ) where
   pub getD-run : (i : ℕ) → i < n → getD (run w from n) i 0 ≡ getD w (from + i) 0
@@ -25,9 +24,6 @@ module _ (w : List ℕ) (from n : ℕ) where
     pub run-end : (i : ℕ) → n ≤ i → drop i (run w from n) ≡ []
     run-end i h = drop-of-length-le (run w from n) {i = i} (omega (arith, length-run))
 
-    pub each-at : (P : ℕ → Type 0) → Each P (run w from n) → (i : ℕ) → i < n → P (getD w (from + i) 0)
-    each-at P e i h = rw (getD-run i h) at (e i (omega (arith, length-run)))
-
 -- what stands in front of a place says what a run there is
 pub run-take : (w : List ℕ) (from n m : ℕ) → from + n ≤ m → run (take m w) from n ≡ run w from n
 run-take w zero n m h = take-take n m w (omega arith)
@@ -37,17 +33,3 @@ run-take (p ∷ w) (suc from) n (suc m) h = run-take w from n m (omega arith)
 
 pub run-split : (w : List ℕ) (from n m : ℕ) → run w from (n + m) ≡ run w from n ++ run w (from + n) m
 run-split w from n m = take-add n m (drop from w) ∙ ap (λ (l : List ℕ). run w from n ++ take m l) (drop-drop n from w)
-
--- each of a run is one of a longer run around it
-pub each-within : (P : ℕ → Type 0) (w : List ℕ) (from n k m : ℕ) → from + n ≤ length w → k + m ≤ n
-    → Each P (run w from n) → Each P (run w (from + k) m)
-each-within P w from n k m f h e i l =
-    let q : i < m = omega (arith, length-run w (from + k) m (omega arith)) in
-    let a : getD (run w from n) (k + i) 0 ≡ getD w (from + k + i) 0 =
-    getD-run w from n (k + i) (omega arith) ∙ ap (λ (z : ℕ). getD w z 0) (omega arith) in
-    rw (getD-run w (from + k) m i q, ← a) (e (k + i) (omega (arith, length-run w from n f)))
-
-pub each-front : (P : ℕ → Type 0) (w : List ℕ) (from n m : ℕ) → from + n ≤ length w → m ≤ n → Each P (run w from n) → Each P (run w from m)
-each-front P w from n m f h e =
-    let q : from + 0 ≡ from = omega arith in
-    rw q at (each-within P w from n 0 m f (omega arith) e)

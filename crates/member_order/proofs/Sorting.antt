@@ -5,16 +5,11 @@ use Prim.Native.Nat.{ℕ, _+_, _-_, _≤_, _<_}
 use native.Mathlib.Omega.{arith}
 use lib.ListN.{length, take}
 use lib.Seq.{length-take-le}
-use Rattle.json.specs.Refusals.{longest}
-use Rattle.member_order.specs.Order.{insert, insertAll, ordered, run, Rising, Inside, Rewritten}
-use Rattle.member_order.specs.Names.{nameAt}
-use Rattle.member_order.proofs.Insert.{each-nil, each-insertAll, length-insertAll, ordered-append}
+use Rattle.member_order.specs.Order.{insert, insertAll, ordered, run, Rising, Rewritten}
+use Rattle.member_order.proofs.Insert.{ordered-append}
 use Rattle.member_order.proofs.Merging.{rising-ordered}
-use Rattle.member_order.proofs.Runs.{length-run, run-split, each-within, each-front}
+use Rattle.member_order.proofs.Runs.{length-run, run-split}
 use Rattle.member_order.proofs.Rewriting.{rewritten-second, rewritten-over}
-
-length-ordered : (name : ℕ → List ℕ) (x : List ℕ) → length (ordered name x) ≤ length x
-length-ordered name x = omega (arith, length-insertAll name x [])
 
 -- fewer than two are in order
 ordered-few : (name : ℕ → List ℕ) (x : List ℕ) → length x < 2 → ordered name x ≡ x
@@ -35,70 +30,55 @@ sorted-few name u low n f h =
       sym l,
     )
 
-module _ (t u v w : List ℕ) (low n h a b : ℕ) (fits : low + n ≤ length u) (part : h ≤ n) where
-  pub first-inside : Inside t (run u low n) → Inside t (run u low h)
-  first-inside i = each-front (λ p. p < length t) u low n h fits part i
+module _ (name : ℕ → List ℕ) (u v w : List ℕ) (low n h a b : ℕ) (fits : low + n ≤ length u) (part : h ≤ n) (first : Sorted name u low h v a) where
+  -- the second part is still to be sorted
+  run-still : run v (low + h) (n - h) ≡ run u (low + h) (n - h)
+  run-still = ap (take (n - h)) (first .0 .above)
 
-  rest-inside : Inside t (run u low n) → Inside t (run u (low + h) (n - h))
-  rest-inside i = each-within (λ p. p < length t) u low n h (n - h) fits (omega arith) i
+  module _ (second : Sorted name v (low + h) (n - h) w b) where
+    few-left : a ≤ h
+    few-left = omega (arith, first .1, first .0 .few)
 
-  module _ (first : Sorted (nameAt t) u low h v a) where
-    -- the second part is still to be sorted
-    pub run-still : run v (low + h) (n - h) ≡ run u (low + h) (n - h)
-    run-still = ap (take (n - h)) (first .0 .above)
+    few-right : b ≤ n - h
+    few-right = omega (arith, second .1, second .0 .few)
 
-    pub second-inside : Inside t (run u low n) → Inside t (run v (low + h) (n - h))
-    second-inside i = rw run-still (rest-inside i)
+    size : length w ≡ length u
+    size = second .0 .size ∙ first .0 .size
 
-    module _ (second : Sorted (nameAt t) v (low + h) (n - h) w b) where
-      few-left : a ≤ h
-      few-left = omega (arith, first .1, first .0 .few)
+    both : Rewritten u low n (ordered name (run u low h)) w
+    both =
+        let q : h + (n - h) ≡ n = omega arith in
+        rw q at (rewritten-second u v w _ _ low h (n - h) (first .0) (second .0))
 
-      few-right : b ≤ n - h
-      few-right = omega (arith, second .1, second .0 .few)
+    run-left : run w low a ≡ ordered name (run u low h)
+    run-left = ap (λ (k : ℕ). run w low k) (first .1) ∙ both .is
 
-      size : length w ≡ length u
-      size = second .0 .size ∙ first .0 .size
+    run-right : run w (low + h) b ≡ ordered name (run u (low + h) (n - h))
+    run-right = ap (λ (k : ℕ). run w (low + h) k) (second .1) ∙ second .0 .is ∙ ap (ordered name) run-still
 
-      both : Rewritten u low n (ordered (nameAt t) (run u low h)) w
-      both =
-          let q : h + (n - h) ≡ n = omega arith in
-          rw q at (rewritten-second u v w _ _ low h (n - h) (first .0) (second .0))
+    merged-is : insertAll name (run w low a) (run w (low + h) b) ≡ ordered name (run u low n)
+    merged-is =
+        let q : h + (n - h) ≡ n = omega arith in
+        rw (run-left, run-right)
+        (sym (ordered-append name (run u low h) (run u (low + h) (n - h)))
+        ∙ ap (ordered name) (sym (run-split u low h (n - h)) ∙ ap (run u low) q))
 
-      run-left : run w low a ≡ ordered (nameAt t) (run u low h)
-      run-left = ap (λ (k : ℕ). run w low k) (first .1) ∙ both .is
+    -- what merge asks
+    pub parts-to-merge : (m : ℕ) → n ≤ m
+        → (low + a ≤ length w) × (low + h + b ≤ length w) × (a + b ≤ m) × Rising name (run w low a) × Rising name (run w (low + h) b)
+    parts-to-merge m k = (
+      omega (arith, few-left, size),
+      omega (arith, few-right, size),
+      omega (arith, few-left, few-right),
+      rw run-left (rising-ordered name (run u low h)),
+      rw run-right (rising-ordered name (run u (low + h) (n - h))),
+    )
 
-      run-right : run w (low + h) b ≡ ordered (nameAt t) (run u (low + h) (n - h))
-      run-right = ap (λ (k : ℕ). run w (low + h) k) (second .1) ∙ second .0 .is ∙ ap (ordered (nameAt t)) run-still
-
-      merged-is : insertAll (nameAt t) (run w low a) (run w (low + h) b) ≡ ordered (nameAt t) (run u low n)
-      merged-is =
-          let q : h + (n - h) ≡ n = omega arith in
-          rw (run-left, run-right)
-          (sym (ordered-append (nameAt t) (run u low h) (run u (low + h) (n - h)))
-          ∙ ap (ordered (nameAt t)) (sym (run-split u low h (n - h)) ∙ ap (run u low) q))
-
-      -- what merge asks
-      pub parts-to-merge : (m : ℕ) → n ≤ m → Inside t (run u low n) → length t ≤ longest
-          → (low + a ≤ length w) × (low + h + b ≤ length w) × (a + b ≤ m) × Rising (nameAt t) (run w low a)
-          × Rising (nameAt t) (run w (low + h) b) × Inside t (run w low a) × Inside t (run w (low + h) b) × (length t ≤ longest)
-      parts-to-merge m k i l =
-          let P : ℕ → Type 0 = λ p. p < length t in (
-            omega (arith, few-left, size),
-            omega (arith, few-right, size),
-            omega (arith, few-left, few-right),
-            rw run-left (rising-ordered (nameAt t) (run u low h)),
-            rw run-right (rising-ordered (nameAt t) (run u (low + h) (n - h))),
-            rw run-left (each-insertAll (nameAt t) P (run u low h) [] (first-inside i) (each-nil P)),
-            rw run-right (each-insertAll (nameAt t) P (run u (low + h) (n - h)) [] (rest-inside i) (each-nil P)),
-            l,
-          )
-
-      -- what is copied back
-      pub sorted-whole : (m z : List ℕ) (r : ℕ) → run m 0 r ≡ insertAll (nameAt t) (run w low a) (run w (low + h) b) → r ≤ a + b → n ≤ length m
-          → Rewritten w low r (run m 0 r) z → Sorted (nameAt t) u low n z r
-      sorted-whole m z r e l k c =
-          let q : run m 0 r ≡ ordered (nameAt t) (run u low n) = e ∙ merged-is in (
-            rewritten-over u w z _ _ low n r (omega (arith, few-left, few-right)) both (rw q at c),
-            sym (length-take-le r m (omega (arith, few-left, few-right))) ∙ ap length q,
-          )
+    -- what is copied back
+    pub sorted-whole : (m z : List ℕ) (r : ℕ) → run m 0 r ≡ insertAll name (run w low a) (run w (low + h) b) → r ≤ a + b → n ≤ length m
+        → Rewritten w low r (run m 0 r) z → Sorted name u low n z r
+    sorted-whole m z r e l k c =
+        let q : run m 0 r ≡ ordered name (run u low n) = e ∙ merged-is in (
+          rewritten-over u w z _ _ low n r (omega (arith, few-left, few-right)) both (rw q at c),
+          sym (length-take-le r m (omega (arith, few-left, few-right))) ∙ ap length q,
+        )

@@ -1,14 +1,13 @@
--- The bytes that a string stands for, one char at a time, and how two runs of bytes lie.
+-- The bytes that a string stands for, one char at a time.
 use mathlib.Core.Path.{_≡_, refl, _∙_, ap}
 use mathlib.Core.Bool.{Bool, true, false, _&&_}
 use mathlib.Core.List.{List, [], _∷_, _++_}
 use Prim.Native.Nat.{ℕ, zero, suc, _≤_, _<_}
 use native.Mathlib.Omega.{arith}
-use borrow.Author.Tests.{eqb-false, eq-eqb, ne-eqb, lt-ltb, le-ltb}
+use borrow.Author.Tests.{eqb-false, eq-eqb, ne-eqb}
 use lib.Dec.{eqb}
 use lib.ListN.{length, drop, length-drop}
 use Rattle.json.specs.Bytes.{within, plain, tail, firstOfThree, firstOfFour, escapeOf, hexFour, isHigh, isLow}
-use Rattle.json.specs.Content.{before}
 use Rattle.json.specs.Grammar.{Char, one, two, three, four, escaped, unicode, pair, Chars, mark, char}
 use Rattle.json.specs.Work.{byteAt, charLen, utf8Len}
 use Rattle.json.proofs.Bounds.{byte-past}
@@ -17,8 +16,7 @@ use Rattle.json.proofs.CharLaws.{char-len, char-front}
 use Rattle.json.proofs.CharSteps.{char-fits}
 use Rattle.json.proofs.Tests.{within-low, outside-high}
 use Rattle.rules.proofs.Tests.{and-true-left}
-use Rattle.member_order.specs.declared.compare.Order.the-variants as Order
-use Rattle.member_order.specs.Names.{escapeText, charText, textFrom, charsText, orderOf}
+use Rattle.member_order.specs.Names.{escapeText, charText, textFrom, charsText}
 
 -- a char of the grammar stands for what charText reads
 two-text : (a b : ℕ) (r : List ℕ) → (within 0xC2 0xDF a && tail b) ≡ true → charText (a ∷ b ∷ r) ≡ a ∷ b ∷ []
@@ -94,42 +92,3 @@ pub chars-text : {s x r : List ℕ} → Chars s x r → charsText s ≡ x
 chars-text (mark {r}) = text-mark (0x22 ∷ r) refl
 chars-text (char {s} c cs) =
     text-more s (char-front c) (char-len c .0) ∙ cc (char-text c, char-len c .1, chars-text cs)
-
--- two runs of bytes, by their first bytes
-pub order-ended : orderOf [] [] ≡ Order.Same
-unfolding orderOf before
-order-ended = refl
-
-pub order-shorter : (b : ℕ) (y : List ℕ) → orderOf [] (b ∷ y) ≡ Order.Before
-unfolding orderOf before
-order-shorter b y = refl
-
-pub order-longer : (a : ℕ) (x : List ℕ) → orderOf (a ∷ x) [] ≡ Order.After
-unfolding orderOf before
-order-longer a x = refl
-
-module _ (a b : ℕ) (x y : List ℕ) where
-  pub before-less : a < b → before (a ∷ x) (b ∷ y) ≡ true
-  unfolding before
-  before-less h = rw (lt-ltb a b h)
-
-  pub before-more : b < a → before (a ∷ x) (b ∷ y) ≡ false
-  unfolding before
-  before-more h = rw (le-ltb a b (omega arith), lt-ltb b a h)
-
-  pub before-same : a ≡ b → before (a ∷ x) (b ∷ y) ≡ before x y
-  unfolding before
-  before-same e = rw (le-ltb a b (omega arith), le-ltb b a (omega arith))
-
-module _ (a b : ℕ) (x y : List ℕ) where
-  pub order-less : a < b → orderOf (a ∷ x) (b ∷ y) ≡ Order.Before
-  unfolding orderOf
-  order-less h = rw (before-less a b x y h)
-
-  pub order-more : b < a → orderOf (a ∷ x) (b ∷ y) ≡ Order.After
-  unfolding orderOf
-  order-more h = rw (before-more a b x y h, before-less b a y x h)
-
-  pub order-same : a ≡ b → orderOf (a ∷ x) (b ∷ y) ≡ orderOf x y
-  unfolding orderOf
-  order-same e = rw (before-same a b x y e, before-same b a y x (omega arith))

@@ -4,14 +4,14 @@ use mathlib.Core.Bool.{true, false}
 use mathlib.Core.List.{List, [], _∷_, _++_}
 use Prim.Native.Nat.{ℕ, _+_, _≤_, _<_}
 use native.Mathlib.Omega.{arith}
-use borrow.Author.Tests.{eq-eqb, ne-eqb}
+use borrow.Author.Tests.{eq-eqb}
 use lib.Dec.{eqb}
-use lib.ListN.{length, drop, getD, drop-of-length-le, length-append, List·getD-append}
+use lib.ListN.{length, drop, getD, drop-of-length-le}
 use lib.Seq.{drop-drop}
 use Rattle.json.specs.Bytes.{plain}
 use Rattle.json.specs.Work.{byteAt, charLen}
-use Rattle.json.proofs.Bounds.{byte-at, left-at}
-use Rattle.json.proofs.Lengths.{byte-here}
+use Rattle.json.proofs.Places.{byte-here}
+use Rattle.json.proofs.StringSteps.{front, no-mark}
 use Rattle.member_order.specs.Names.{charText, textFrom, charsText}
 use Rattle.member_order.proofs.TextLaws.{text-mark, text-bad, text-more}
 
@@ -27,24 +27,12 @@ text-on t i e l h =
     (text-more (drop i t) e (omega arith) ∙ ap (λ (s : List ℕ). charText (drop i t) ++ charsText s) (drop-drop (charLen (drop i t)) i t))
 
 module _ (t : List ℕ) (i : ℕ) (h : i < length t) where
-  front : byteAt (drop i t) 0 ≡ getD t i 0
-  front = byte-here t i ∙ sym (byte-at t i h)
-
   pub text-closed : getD t i 0 ≡ 0x22 → charsText (drop i t) ≡ []
-  text-closed e = text-mark (drop i t) (eq-eqb _ 0x22 (front ∙ e))
-
-  pub no-mark : (getD t i 0 ≡ 0x22 → ⊥) → eqb (byteAt (drop i t) 0) 0x22 ≡ false
-  no-mark e = ne-eqb _ 0x22 (λ q. e (sym front ∙ q))
+  text-closed e = text-mark (drop i t) (eq-eqb _ 0x22 (front t i h ∙ e))
 
   pub text-stuck : {n : ℕ} → (getD t i 0 ≡ 0x22 → ⊥) → n ≡ charLen (drop i t) → n ≡ 0 → charsText (drop i t) ≡ []
-  text-stuck e l z = text-bad (drop i t) (no-mark e) (sym l ∙ z)
+  text-stuck e l z = text-bad (drop i t) (no-mark t i h e) (sym l ∙ z)
 
 pub plain-text : (t : List ℕ) (i : ℕ) → plain (byteAt t i) ≡ true → charText (drop i t) ≡ byteAt t i ∷ []
 unfolding charText
 plain-text t i h = rw (byte-here t i, h)
-
--- a byte of a first run
-pub front-byte : (x y : List ℕ) (k : ℕ) → k < length x → drop k (x ++ y) ≡ byteAt x k ∷ drop (k + 1) (x ++ y)
-front-byte x y k h =
-    let l : k < length (x ++ y) = omega (arith, length-append x y) in
-    left-at (x ++ y) k l ∙ ap (λ (b : ℕ). b ∷ drop (k + 1) (x ++ y)) (List·getD-append x y 256 k h)

@@ -2,18 +2,13 @@
 use mathlib.Core.Path.{_≡_}
 use mathlib.Core.Bool.{Bool, true, false, cond}
 use mathlib.Core.List.{List, [], _∷_, _++_}
-use Prim.Native.Nat.{ℕ, zero, suc, _+_, _-_, _≤_, _<_}
+use Prim.Native.Nat.{ℕ, zero, suc, _+_, _≤_, _<_}
 use lib.Dec.{ltb, eqb}
 use lib.ListN.{length, take, drop}
 use Rattle.json.specs.Bytes.{plain, escapeOf, isScalar, joined, utf8}
 use Rattle.json.specs.Content.{before}
 use Rattle.json.specs.Work.{byteAt, hexAt, utf8Len, charLen}
 use Rattle.member_order.specs.declared.names.Decoded.{Decoded}
-use Rattle.member_order.specs.declared.names.Cursor.{Cursor}
-use Rattle.member_order.specs.declared.names.Peek.{Peek}
-use Rattle.member_order.specs.declared.names.Peek.the-variants as Peek
-use Rattle.member_order.specs.declared.compare.Compared.{Compared}
-use Rattle.member_order.specs.declared.compare.Compared.the-variants as Compared
 use Rattle.member_order.specs.declared.compare.Order.{Order}
 use Rattle.member_order.specs.declared.compare.Order.the-variants as Order
 
@@ -48,26 +43,13 @@ pub record Decodes (x : List ℕ) (d : Decoded) : Type 0 where
   pub some : 0 < d .len
   pub most : d .len ≤ 4
 
--- what is left of a string at a cursor: from the char at its place, without that char's first k bytes
-abbrev pub leftAt : List ℕ → Cursor → List ℕ
-leftAt t c = drop (c .k) (charsText (drop (c .at) t))
+-- a name in a list of bytes, from a place up to an FF
+unfoldable pub upToFF : List ℕ → List ℕ
+upToFF [] = []
+upToFF (b ∷ s) = cond (eqb b 0xFF) [] (b ∷ upToFF s)
 
--- the cursor is at a char's first byte or at a later one of the same char
-pub record Sits (t : List ℕ) (c : Cursor) : Type 0 where
-  pub fits : c .at ≤ length t
-  pub inside : c .k ≤ length (charText (drop (c .at) t)) - 1
-
-abbrev pub peeked : List ℕ → Peek → List ℕ
-peeked t (Peek.Byte b c) = b ∷ leftAt t c
-peeked t Peek.End = []
-
-abbrev pub NextSits : List ℕ → Peek → Type 0
-NextSits t (Peek.Byte b c) = Sits t c
-NextSits t Peek.End = Unit {0}
-
-pub record Peeks (t x : List ℕ) (r : Peek) : Type 0 where
-  pub is : peeked t r ≡ x
-  pub sits : NextSits t r
+abbrev pub nameIn : List ℕ → ℕ → List ℕ
+nameIn w p = upToFF (drop p w)
 
 abbrev pub pickOrder : Bool → Order → Order → Order
 pickOrder true a b = a
@@ -75,9 +57,3 @@ pickOrder false a b = b
 
 unfoldable pub orderOf : List ℕ → List ℕ → Order
 orderOf x y = pickOrder (before x y) Order.Before (pickOrder (before y x) Order.After Order.Same)
-
--- one byte of each: the order is known, or is that of what is left
-abbrev pub StepSays : List ℕ → (x y : List ℕ) → Compared → Type 0
-StepSays t x y (Compared.Known o) = o ≡ orderOf x y
-StepSays t x y (Compared.Open a b) =
-    Sits t a × Sits t b × (orderOf (leftAt t a) (leftAt t b) ≡ orderOf x y) × (length (leftAt t a) < length x)

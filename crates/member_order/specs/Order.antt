@@ -37,10 +37,6 @@ Picks name x y i j p =
 unfoldable pub Rising : (name : ℕ → List ℕ) → List ℕ → Type 0
 Rising name x = (i j : ℕ) → i < j → j < length x → before (name (getD x i 0)) (name (getD x j 0)) ≡ true
 
--- every element is a place of a text
-abbrev pub Inside : List ℕ → List ℕ → Type 0
-Inside t x = (i : ℕ) → i < length x → getD x i 0 < length t
-
 -- w is v but for the n places from one on, where it begins with x
 pub record Rewritten (v : List ℕ) (from n : ℕ) (x : List ℕ) (w : List ℕ) : Type 0 where
   pub size : length w ≡ length v

@@ -1,12 +1,9 @@
 // Two names, byte by byte.
-use crate::names::Cursor;
-use crate::names::Peek;
-use crate::names::next_byte;
 ghost use mathlib.Core.Path.{_≡_};
-ghost use Prim.Native.Nat.{_≤_, _<_};
-ghost use lib.ListN.{length};
-ghost use Rattle.json.specs.Refusals.{longest};
-ghost use Rattle.member_order.specs.Names.{nameAt, leftAt, Sits, orderOf, StepSays};
+ghost use mathlib.Core.List.{List, _∷_};
+ghost use Prim.Native.Nat.{ℕ};
+ghost use lib.ListN.{getD};
+ghost use Rattle.member_order.specs.Names.{upToFF, nameIn, orderOf};
 
 // How the first of two names lies to the second.
 pub enum Order {
@@ -15,52 +12,43 @@ pub enum Order {
     After,
 }
 
-// What one byte of each shows: the order, or that it is the order of what follows.
-pub enum Compared {
-    Known(Order),
-    Open(Cursor, Cursor),
+// The byte at a place, FF behind the last.
+fn byte_in(names: &[u8], at: usize) -> u8
+    ensures { λ r. ⌜ r ≡ getD (now (names .entry)) at 0xFF ⌝ }
+{
+    if at < names.len() { names[at] } else { 0xFF }
 }
 
-fn compare_byte(text: &[u8], a: Cursor, b: Cursor) -> Compared
-    requires { ⌜ Sits (now text) a × Sits (now text) b × (length (now text) ≤ longest) ⌝ }
-    ensures { λ r. ⌜ StepSays (now (text .entry)) (leftAt (now (text .entry)) a) (leftAt (now (text .entry)) b) r ⌝ }
+// Two names by their first bytes, which are not the same. FF is the end of a name.
+fn order_of(x: u8, y: u8) -> Order
+    requires { ⌜ (x ≡ y → ⊥) ⌝ }
+    ensures { λ r. ⌜ ((s u : List ℕ) → r ≡ orderOf (upToFF (x ∷ s)) (upToFF (y ∷ u))) ⌝ }
 {
-    match next_byte(text, a) {
-        Peek::End => match next_byte(text, b) {
-            Peek::End => Compared::Known(Order::Same),
-            Peek::Byte(_, _) => Compared::Known(Order::Before),
-        },
-        Peek::Byte(x, after_x) => match next_byte(text, b) {
-            Peek::End => Compared::Known(Order::After),
-            Peek::Byte(y, after_y) => {
-                if x < y {
-                    return Compared::Known(Order::Before);
-                }
-                if y < x {
-                    return Compared::Known(Order::After);
-                }
-                Compared::Open(after_x, after_y)
-            }
-        },
+    if x == 0xFF {
+        return Order::Before;
     }
+    if y == 0xFF {
+        return Order::After;
+    }
+    if x < y { Order::Before } else { Order::After }
 }
 
-// The names whose first marks stand at two places.
-pub fn compare(text: &[u8], p: usize, q: usize) -> Order
-    requires { ⌜ (p < length (now text)) × (q < length (now text)) × (length (now text) ≤ longest) ⌝ }
-    ensures { λ r. ⌜ r ≡ orderOf (nameAt (now (text .entry)) p) (nameAt (now (text .entry)) q) ⌝ }
+// The names that begin at two places of a list and go up to an FF each.
+pub fn compare(names: &[u8], p: usize, q: usize) -> Order
+    ensures { λ r. ⌜ r ≡ orderOf (nameIn (now (names .entry)) p) (nameIn (now (names .entry)) q) ⌝ }
 {
-    let mut a = Cursor { at: p + 1, k: 0 };
-    let mut b = Cursor { at: q + 1, k: 0 };
+    let mut i = p;
+    let mut j = q;
     loop {
-        match compare_byte(text, a, b) {
-            Compared::Known(order) => {
-                return order;
-            }
-            Compared::Open(after_a, after_b) => {
-                a = after_a;
-                b = after_b;
-            }
+        let x = byte_in(names, i);
+        let y = byte_in(names, j);
+        if x != y {
+            return order_of(x, y);
         }
+        if x == 0xFF {
+            return Order::Same;
+        }
+        i += 1;
+        j += 1;
     }
 }

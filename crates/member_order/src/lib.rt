@@ -1,4 +1,4 @@
-// The members of an object in the order of their names: each name through its escapes, of a repeated one the last.
+// The bytes that the chars of a string stand for; and the members of an object in the order of their names, of a repeated one the last.
 pub mod compare;
 pub mod names;
 pub mod sort;

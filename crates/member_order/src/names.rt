@@ -3,18 +3,14 @@ use json::bytes::byte;
 use json::strings::escape_of;
 use json::strings::hex_at;
 use json::strings::is_scalar;
-use json::strings::plain;
-use json::strings::special_len;
 ghost use mathlib.Core.Path.{_≡_};
-ghost use mathlib.Core.Bool.{false};
 ghost use mathlib.Core.List.{[], _∷_};
 ghost use Prim.Native.Nat.{_+_, _≤_, _<_};
-ghost use lib.Dec.{eqb};
 ghost use lib.ListN.{length, drop};
 ghost use Rattle.json.specs.Bytes.{utf8};
 ghost use Rattle.json.specs.Refusals.{longest};
 ghost use Rattle.json.specs.Work.{byteAt, charLen};
-ghost use Rattle.member_order.specs.Names.{escapeText, charText, leftAt, Sits, Decodes, Peeks};
+ghost use Rattle.member_order.specs.Names.{escapeText, charText, Decodes};
 
 // One to four bytes.
 pub struct Decoded {
@@ -23,18 +19,6 @@ pub struct Decoded {
     pub b2: u8,
     pub b3: u8,
     pub len: usize,
-}
-
-// A place in a string: a char, and how many of its bytes are read.
-pub struct Cursor {
-    pub at: usize,
-    pub k: usize,
-}
-
-// What is read at a cursor: a byte and the next cursor, or the string's end.
-pub enum Peek {
-    Byte(u8, Cursor),
-    End,
 }
 
 fn one(b: u32) -> Decoded
@@ -135,54 +119,4 @@ pub fn decode(text: &[u8], at: usize, n: usize) -> Decoded
         b3,
         len: n,
     }
-}
-
-fn byte_in(d: Decoded, k: usize) -> u8
-    requires { ⌜ k < 4 ⌝ }
-    ensures { λ r. ⌜ r ≡ byteAt (d .b0 ∷ d .b1 ∷ d .b2 ∷ d .b3 ∷ []) k ⌝ }
-{
-    match k {
-        0 => d.b0,
-        1 => d.b1,
-        2 => d.b2,
-        _ => d.b3,
-    }
-}
-
-// At a char of n bytes that is no single plain byte: its byte k.
-fn inner_byte(text: &[u8], at: usize, k: usize, n: usize) -> Peek
-    requires { ⌜ Sits (now text) (record { at = at; k = k }) × (length (now text) ≤ longest)
-        × (n ≡ charLen (drop at (now text))) × (0 < n) × (eqb (byteAt (drop at (now text)) 0) 0x22 ≡ false) ⌝ }
-    ensures { λ r. ⌜ Peeks (now (text .entry)) (leftAt (now (text .entry)) (record { at = at; k = k })) r ⌝ }
-{
-    let d = decode(text, at, n);
-    let len = d.len;
-    let b = byte_in(d, k);
-    if k + 1 < len {
-        return Peek::Byte(b, Cursor { at, k: k + 1 });
-    }
-    Peek::Byte(b, Cursor { at: at + n, k: 0 })
-}
-
-// The next byte of a string, at a cursor.
-pub fn next_byte(text: &[u8], c: Cursor) -> Peek
-    requires { ⌜ Sits (now text) c × (length (now text) ≤ longest) ⌝ }
-    ensures { λ r. ⌜ Peeks (now (text .entry)) (leftAt (now (text .entry)) c) r ⌝ }
-{
-    let at = c.at;
-    if text.len() <= at {
-        return Peek::End;
-    }
-    let b = text[at];
-    if b == 0x22 {
-        return Peek::End;
-    }
-    if plain(byte(text, at)) {
-        return Peek::Byte(b, Cursor { at: at + 1, k: 0 });
-    }
-    let n = special_len(text, at);
-    if n == 0 {
-        return Peek::End;
-    }
-    inner_byte(text, at, c.k, n)
 }

@@ -4,9 +4,8 @@ use crate::compare::compare;
 ghost use mathlib.Core.Path.{_≡_};
 ghost use Prim.Native.Nat.{_+_, _≤_, _<_};
 ghost use lib.ListN.{length};
-ghost use Rattle.json.specs.Refusals.{longest};
-ghost use Rattle.member_order.specs.Names.{nameAt};
-ghost use Rattle.member_order.specs.Order.{insertAll, ordered, run, Picks, Rising, Inside, Rewritten};
+ghost use Rattle.member_order.specs.Names.{nameIn};
+ghost use Rattle.member_order.specs.Order.{insertAll, ordered, run, Picks, Rising, Rewritten};
 
 // The next place of two runs, and how far each is read behind it.
 pub struct Picked {
@@ -15,7 +14,7 @@ pub struct Picked {
     pub j: usize,
 }
 
-fn wide(x: u16) -> usize
+pub fn wide(x: u16) -> usize
     ensures { λ r. ⌜ r ≡ x ⌝ }
 {
     x as usize
@@ -23,7 +22,7 @@ fn wide(x: u16) -> usize
 
 // Of two runs in order, the earlier a places from low on and the later b places from middle on, the next place.
 fn pick(
-    text: &[u8],
+    names: &[u8],
     places: &[u16],
     low: usize,
     a: usize,
@@ -33,9 +32,8 @@ fn pick(
     j: usize,
 ) -> Picked
     requires { ⌜ (low + a ≤ length (now places)) × (middle + b ≤ length (now places)) × (i ≤ a) × (j ≤ b) × (i + j < a + b)
-        × Rising (nameAt (now text)) (run (now places) low a) × Rising (nameAt (now text)) (run (now places) middle b)
-        × Inside (now text) (run (now places) low a) × Inside (now text) (run (now places) middle b) × (length (now text) ≤ longest) ⌝ }
-    ensures { λ r. ⌜ Picks (nameAt (now (text .entry))) (run (now (places .entry)) low a) (run (now (places .entry)) middle b) i j r ⌝ }
+        × Rising (nameIn (now names)) (run (now places) low a) × Rising (nameIn (now names)) (run (now places) middle b) ⌝ }
+    ensures { λ r. ⌜ Picks (nameIn (now (names .entry))) (run (now (places .entry)) low a) (run (now (places .entry)) middle b) i j r ⌝ }
 {
     if i == a {
         return Picked {
@@ -53,7 +51,7 @@ fn pick(
         };
     }
     let y = places[middle + j];
-    match compare(text, wide(x), wide(y)) {
+    match compare(names, wide(x), wide(y)) {
         Order::Before => Picked {
             place: x,
             i: i + 1,
@@ -74,7 +72,7 @@ fn pick(
 
 // The two runs merged, in front of merged; how many places that makes.
 fn merge(
-    text: &[u8],
+    names: &[u8],
     places: &[u16],
     merged: &mut [u16],
     low: usize,
@@ -83,16 +81,15 @@ fn merge(
     b: usize,
 ) -> usize
     requires { ⌜ (low + a ≤ length (now places)) × (middle + b ≤ length (now places)) × (a + b ≤ length (now merged))
-        × Rising (nameAt (now text)) (run (now places) low a) × Rising (nameAt (now text)) (run (now places) middle b)
-        × Inside (now text) (run (now places) low a) × Inside (now text) (run (now places) middle b) × (length (now text) ≤ longest) ⌝ }
+        × Rising (nameIn (now names)) (run (now places) low a) × Rising (nameIn (now names)) (run (now places) middle b) ⌝ }
     ensures { λ r. ⌜ (run (now (merged .exit)) 0 r
-        ≡ insertAll (nameAt (now (text .entry))) (run (now (places .entry)) low a) (run (now (places .entry)) middle b)) × (r ≤ a + b) ⌝ }
+        ≡ insertAll (nameIn (now (names .entry))) (run (now (places .entry)) low a) (run (now (places .entry)) middle b)) × (r ≤ a + b) ⌝ }
 {
     let mut i: usize = 0;
     let mut j: usize = 0;
     let mut count: usize = 0;
     while i + j < a + b {
-        let next = pick(text, places, low, a, middle, b, i, j);
+        let next = pick(names, places, low, a, middle, b, i, j);
         merged[count] = next.place;
         i = next.i;
         j = next.j;
@@ -114,19 +111,27 @@ fn copy_back(merged: &[u16], places: &mut [u16], low: usize, n: usize)
 }
 
 // Puts the n places from low on in the order of their names, of each name the last; how many are left.
-pub fn sort(text: &[u8], places: &mut [u16], merged: &mut [u16], low: usize, n: usize) -> usize
-    requires { ⌜ (low + n ≤ length (now places)) × (n ≤ length (now merged)) × Inside (now text) (run (now places) low n)
-        × (length (now text) ≤ longest) ⌝ }
-    ensures { λ r. ⌜ Rewritten (now (places .entry)) low n (ordered (nameAt (now (text .entry))) (run (now (places .entry)) low n)) (now (places .exit))
-        × (r ≡ length (ordered (nameAt (now (text .entry))) (run (now (places .entry)) low n))) ⌝ }
+pub fn sort(names: &[u8], places: &mut [u16], merged: &mut [u16], low: usize, n: usize) -> usize
+    requires { ⌜ (low + n ≤ length (now places)) × (n ≤ length (now merged)) ⌝ }
+    ensures { λ r. ⌜ Rewritten (now (places .entry)) low n (ordered (nameIn (now (names .entry))) (run (now (places .entry)) low n)) (now (places .exit))
+        × (r ≡ length (ordered (nameIn (now (names .entry))) (run (now (places .entry)) low n))) ⌝ }
 {
     if n < 2 {
         return n;
     }
+    sort_halves(names, places, merged, low, n)
+}
+
+// The same of two places or more: both halves in order, then merged.
+fn sort_halves(names: &[u8], places: &mut [u16], merged: &mut [u16], low: usize, n: usize) -> usize
+    requires { ⌜ (low + n ≤ length (now places)) × (n ≤ length (now merged)) × (2 ≤ n) ⌝ }
+    ensures { λ r. ⌜ Rewritten (now (places .entry)) low n (ordered (nameIn (now (names .entry))) (run (now (places .entry)) low n)) (now (places .exit))
+        × (r ≡ length (ordered (nameIn (now (names .entry))) (run (now (places .entry)) low n))) ⌝ }
+{
     let half = n / 2;
-    let a = sort(text, places, merged, low, half);
-    let b = sort(text, places, merged, low + half, n - half);
-    let count = merge(text, places, merged, low, a, low + half, b);
+    let a = sort(names, places, merged, low, half);
+    let b = sort(names, places, merged, low + half, n - half);
+    let count = merge(names, places, merged, low, a, low + half, b);
     copy_back(merged, places, low, count);
     count
 }

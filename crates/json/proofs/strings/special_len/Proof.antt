@@ -1,7 +1,7 @@
 use borrow.Author.Needs.{needs}
 use borrow.Author.Tests.{eq-eqb, ne-eqb}
 use mathlib.Core.Path.{_∙_, sym}
-use Rattle.json.proofs.Lengths.{byte-here}
+use Rattle.json.proofs.Places.{byte-here}
 use Rattle.json.proofs.strings.special_len.Statement.{statement}
 use Rattle.json.proofs.strings.special_len.Tie as tie
 

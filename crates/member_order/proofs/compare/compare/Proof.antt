@@ -1,50 +1,62 @@
 use borrow.Author.Needs.{needs}
-use mathlib.Core.Path.{_≡_, refl, _∙_}
-use Prim.Native.Nat.{_<_, zero-le}
+use mathlib.Core.Path.{_≡_, _∙_}
+use mathlib.Core.List.{_∷_}
+use Prim.Native.Nat.{_+_, _-_, _<_}
 use native.Mathlib.Omega.{arith}
-use lib.ListN.{length}
-use Rattle.member_order.specs.Names.{nameAt, leftAt, Sits, orderOf}
-use Rattle.member_order.proofs.PeekLaws.{step-known, step-open}
+use lib.ListN.{length, drop}
+use Rattle.member_order.specs.Names.{upToFF, nameIn, orderOf}
+use Rattle.member_order.proofs.NameSteps.{no-end-inside, both-ended, first-equal, order-read}
 use Rattle.member_order.proofs.compare.compare.Statement.{statement}
 use Rattle.member_order.proofs.compare.compare.Tie as tie
 
 abbrev Inv-loop : tie.InvT-loop
-Inv-loop text p q a₀ b₀ a b =
-    Sits text a × Sits text b × (orderOf (leftAt text a) (leftAt text b) ≡ orderOf (nameAt text p) (nameAt text q))
+Inv-loop names p q i₀ j₀ i j = orderOf (nameIn names i) (nameIn names j) ≡ orderOf (nameIn names p) (nameIn names q)
 
 abbrev μ-loop : tie.MeasureT-loop
-μ-loop text p q a₀ b₀ a b = length (leftAt text a)
+μ-loop names p q i₀ j₀ i j = length names - i
 
-loop-holds : tie.Need-loop-holds Inv-loop μ-loop
-loop-holds c =
-    (record { fits = omega arith; inside = zero-le }, record { fits = omega arith; inside = zero-le }, refl)
+-- the bytes read are the first of two names that lie as those asked for
+read :
+    (c : tie.After-byte-in2 Inv-loop μ-loop) →
+    (let l = c .before .before in
+    let a = l .before .before .args in
+    let w = a .names .now in
+    orderOf (upToFF (c .before .byte-in .result ∷ drop (l .loop .i + 1) w)) (upToFF (c .byte-in2 .result ∷ drop (l .loop .j + 1) w))
+    ≡ orderOf (nameIn w (a .p)) (nameIn w (a .q)))
+read c =
+    let l = c .before .before in
+    order-read (l .before .before .args .names .now) _ _ _ _ (c .before .byte-in .ensures) (c .byte-in2 .ensures) ∙ l .loop .inv
 
-compare-byte-requires : tie.Need-compare-byte-requires Inv-loop μ-loop
-compare-byte-requires c κs = (c .loop .inv .0, c .loop .inv .1, search needs)
+-- no end is read, so both places are inside
+inside :
+    (c : tie.Else2 Inv-loop μ-loop) →
+    (let l = c .before .before .before .before in
+    let w = l .before .before .args .names .now in (l .loop .i < length w) × (l .loop .j < length w))
+inside c =
+    let b = c .before .before in
+    let l = b .before .before in
+    let w = l .before .before .args .names .now in
+    (no-end-inside w (l .loop .i) (omega (arith, b .before .byte-in .ensures)), no-end-inside w (l .loop .j) (omega (arith, b .byte-in2 .ensures)))
 
 returns : tie.Need-returns Inv-loop μ-loop
-returns c =
-    let m = c .before .before .before in
-    step-known _ _ _ _ (m .compare-byte .ensures) (c .before .order .given .1) ∙ m .before .loop .inv .2
+returns c = c .order-of .ensures _ _ ∙ read (c .before .before)
 
--- what the step leaves
-opens :
-    (c : tie.After-known-told2 Inv-loop μ-loop) →
-    (let l = c .before .before .before .before in
-    let t = l .before .before .args .text .now in
-    let a = c .before .after-a .given .0 .0 in
-    let b = c .before .after-a .given .0 .1 .0 in
-    Sits t a × Sits t b × (orderOf (leftAt t a) (leftAt t b) ≡ orderOf (leftAt t (l .loop .a)) (leftAt t (l .loop .b)))
-    × (length (leftAt t a) < length (leftAt t (l .loop .a))))
-opens c = step-open _ _ _ _ (c .before .before .before .compare-byte .ensures) (c .before .after-a .given .1)
+returns-2 : tie.Need-returns-2 Inv-loop μ-loop
+returns-2 c = both-ended _ _ _ _ (omega arith) (omega arith) ∙ read (c .before .before)
+
+add-i : tie.Need-add-i Inv-loop μ-loop
+add-i c = omega (arith, inside c .0)
+
+add-j : tie.Need-add-j Inv-loop μ-loop
+add-j c = omega (arith, inside c .1)
 
 loop-less : tie.Need-loop-less Inv-loop μ-loop
-loop-less c = opens c .3
+loop-less c = omega (arith, inside c .0)
 
 loop-again : tie.Need-loop-again Inv-loop μ-loop
 loop-again c =
-    let o = opens c in
-    (o .0, o .1, o .2 ∙ c .before .before .before .before .loop .inv .2)
+    let b = c .before .before in
+    first-equal (b .before .byte-in .result) (b .byte-in2 .result) _ _ (omega arith) (omega arith) (omega arith) ∙ read b
 
 pub compare-spec : {M : Type 1} → statement M
 compare-spec =
@@ -53,11 +65,12 @@ compare-spec =
     Inv-loop
     μ-loop
     (λ c. search needs)
-    (λ c. search needs)
-    loop-holds
-    compare-byte-requires
-    (λ c. search needs)
+    (λ c κs. search needs)
+    (λ c κs. search needs)
+    (λ c κs. search needs)
     returns
-    (λ c. search needs)
+    returns-2
+    add-i
+    add-j
     loop-less
     loop-again)

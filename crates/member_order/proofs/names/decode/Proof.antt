@@ -5,7 +5,7 @@ use mathlib.Core.Bool.{false}
 use lib.Dec.{eqb}
 use lib.ListN.{drop}
 use Rattle.json.specs.Work.{byteAt}
-use Rattle.json.proofs.Lengths.{byte-here}
+use Rattle.json.proofs.Places.{byte-here}
 use Rattle.member_order.proofs.DecodeLaws.{escape-text, decodes-front}
 use Rattle.member_order.proofs.names.decode.Statement.{statement}
 use Rattle.member_order.proofs.names.decode.Tie as tie

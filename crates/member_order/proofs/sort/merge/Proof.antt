@@ -3,7 +3,7 @@ use Prim.Native.Nat.{_+_, _≤_, _-_}
 use native.Mathlib.Omega.{arith}
 use borrow.Author.Needs.{needs}
 use lib.ListN.{length, length-set}
-use Rattle.member_order.specs.Names.{nameAt}
+use Rattle.member_order.specs.Names.{nameIn}
 use Rattle.member_order.specs.Order.{run}
 use Rattle.member_order.proofs.Runs.{length-run}
 use Rattle.member_order.proofs.Merged.{Merged, merged-none, merged-more, merged-all}
@@ -11,12 +11,12 @@ use Rattle.member_order.proofs.sort.merge.Statement.{statement}
 use Rattle.member_order.proofs.sort.merge.Tie as tie
 
 abbrev Inv-loop : tie.InvT-loop
-Inv-loop text places merged₀ low a middle b i₀ j₀ count₀ merged i j count =
+Inv-loop names places merged₀ low a middle b i₀ j₀ count₀ merged i j count =
     (length merged ≡ length merged₀) × (i ≤ a) × (j ≤ b) × (count ≤ i + j)
-    × Merged (nameAt text) (run places low a) (run places middle b) merged i j count
+    × Merged (nameIn names) (run places low a) (run places middle b) merged i j count
 
 abbrev μ-loop : tie.MeasureT-loop
-μ-loop text places merged₀ low a middle b i₀ j₀ count₀ merged i j count = (a + b) - (i + j)
+μ-loop names places merged₀ low a middle b i₀ j₀ count₀ merged i j count = (a + b) - (i + j)
 
 loop-holds : tie.Need-loop-holds Inv-loop μ-loop
 loop-holds c = (refl, omega arith, omega arith, omega arith, merged-none _ _ _ _)
