@@ -10,7 +10,8 @@
  * output.
  *
  * Pointers  What one call is handed may not overlap, and none is NULL but that of an empty message. No call keeps a pointer.
- * Stack     A call takes up to 400 kB of it, whatever the length of the message.
+ * Stack     json_key takes up to 70 kB of it for a message of up to 4,096 bytes, 400 kB for a longer one. Whatever the length, json_long_key
+ *           takes up to 460 kB, json_canonical 240 kB, json_refusal 34 kB.
  * Threads   The library keeps nothing between calls.
  */
 #ifndef POLLENDRIFT_JSON_H
@@ -50,7 +51,7 @@ uint64_t json_canonical(const uint8_t *text, size_t length, uint8_t *out, size_t
 /* The key of a message. Refused: the number is in *key0, and *key1 is 0. */
 uint64_t json_key(const uint8_t *text, size_t length, uint64_t *key0, uint64_t *key1);
 
-/* The same; what it takes of the stack is that of the longest message. json_key calls it for a message of more than 4,096 bytes. */
+/* The same for a message of any length, in room for the longest. json_key calls it for a message of more than 4,096 bytes. */
 uint64_t json_long_key(const uint8_t *text, size_t length, uint64_t *key0, uint64_t *key1);
 
 #ifdef __cplusplus

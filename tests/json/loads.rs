@@ -66,9 +66,20 @@ fn nested(item: &str, length: usize) -> Vec<u8> {
     filled(out, length)
 }
 
+// In an order that no rule makes: the branches of a sort that learns an order find none.
+fn shuffled(mut names: Vec<String>) -> impl Iterator<Item = String> {
+    let mut r = Random::new(5);
+    for i in (1..names.len()).rev() {
+        names.swap(i, r.below(i as u64 + 1) as usize);
+    }
+    names.into_iter()
+}
+
 // The worst inputs of 32,768 bytes that we thought of.
 pub fn worst() -> Vec<(&'static str, Vec<u8>)> {
     const N: usize = 32_768;
+    let letters = || (b'#'..=b'[').chain(b']'..=b'~').map(char::from);
+    let two = || letters().flat_map(|a| letters().map(move |b| format!("{a}{b}"))).collect();
     let string = |unit: &str| format!("\"{}\"", unit.repeat((N - 2) / unit.len()));
     vec![
         ("one string of plain bytes", filled(string("a"), N)),
@@ -83,6 +94,8 @@ pub fn worst() -> Vec<(&'static str, Vec<u8>)> {
         ("objects inside 14 objects", nested("{\"b\":0,\"a\":0}", N)),
         ("short names, falling", object((0..10_000u32).rev().map(|i| format!("{i:x}")), N)),
         ("short names, mixed", object((0..10_000u64).map(|i| format!("{:x}", i * 7919 % 10_007)), N)),
+        ("short names, shuffled", object(shuffled((0..10_000).map(|i| format!("{i:x}")).collect()), N)),
+        ("names of two bytes, shuffled", object(shuffled(two()), N)),
         ("one name again and again", object((0..10_000).map(|_| "a".into()), N)),
         ("names of 24 equal bytes and four, falling", object((0..5_000u32).rev().map(|i| format!("{}{i:04}", "p".repeat(24))), N)),
         ("names of 200 equal bytes and four, mixed", object((0..5_000u64).map(|i| format!("{}{:04}", "p".repeat(200), i * 37 % 151)), N)),

@@ -4,7 +4,7 @@ use mathlib.Core.Bool.{false}
 use mathlib.Core.List.{List, _++_}
 use Prim.Native.Nat.{ℕ, zero, suc, _*_, _≤_}
 use native.Mathlib.Omega.{arith}
-use lib.ListN.{length, drop, getD, replicate, length-drop, length-replicate}
+use lib.ListN.{length, drop, getD, length-drop}
 use Rattle.json.specs.Bytes.{isDigit, within}
 use Rattle.json.specs.Canonical.{canonical}
 use Rattle.json.specs.Content.{content}
@@ -21,6 +21,7 @@ use Rattle.canonical.specs.Calls.{Message, WroteMessage}
 use Rattle.writing.specs.Places.{Spans}
 use Rattle.writing.specs.Writing.{Writable, Wrote}
 use Rattle.writing.proofs.Parts.{past-val, place-past}
+use Rattle.writing.proofs.PutLaws.{zeros, zeros-length}
 use Rattle.writing.proofs.Spanning.{Skips}
 use Rattle.writing.proofs.WrittenLaws.{written-front}
 
@@ -86,10 +87,6 @@ message-of (too-long h) e = absurd (omega arith)
 message-of (no-text h) e = absurd (omega arith)
 message-of (judged {v} h x f) e = record { short = h; value = v; text = x; faultless = f ∙ e }
 
--- lists of n zeros suffice for a message that is at most n bytes long
-abbrev pub zeros : ℕ → List ℕ
-zeros n = replicate n 0
-
 zeros-at : (n p : ℕ) → getD (zeros n) p 0 ≡ 0
 zeros-at zero p = refl
 zeros-at (suc n) zero = refl
@@ -101,8 +98,9 @@ Asks t ends places merged names out =
     Message t × (length t ≤ length ends) × (length t ≤ length places) × (length t ≤ length merged)
     × (length t ≤ length names) × (5 * length t ≤ length out) × ((p : ℕ) → getD ends p 0 ≡ 0)
 
+-- lists of n zeros suffice for a message that is at most n bytes long
 pub zeros-suffice :
     (n : ℕ) (t out : List ℕ) → Message t → length t ≤ n → 5 * length t ≤ length out → Asks t (zeros n) (zeros n) (zeros n) (zeros n) out
 zeros-suffice n t out m h k =
-    let l : length t ≤ length (zeros n) = omega (arith, length-replicate {A = ℕ} n 0) in
+    let l : length t ≤ length (zeros n) = omega (arith, zeros-length n) in
     (m, l, l, l, l, k, zeros-at n)

@@ -11,7 +11,7 @@ use Rattle.member_order.specs.declared.compare.Order.the-variants as Ord
 use Rattle.member_order.specs.Names.{upToFF, nameIn, orderOf}
 use Rattle.member_order.proofs.Before.{before-less, before-more, before-equal}
 
--- ---- a name by its first byte
+-- a name by its first byte
 pub name-ended : (b : ℕ) (s : List ℕ) → b ≡ 0xFF → upToFF (b ∷ s) ≡ []
 unfolding upToFF
 name-ended b s e = rw (eq-eqb b 0xFF e)
@@ -20,7 +20,7 @@ pub name-more : (b : ℕ) (s : List ℕ) → (b ≡ 0xFF → ⊥) → upToFF (b 
 unfolding upToFF
 name-more b s n = rw (ne-eqb b 0xFF n)
 
--- ---- the byte at a place, FF behind the last
+-- the byte at a place, FF behind the last
 pub byte-in-list : (w : List ℕ) (i : ℕ) → i < length w → getD w i 0 ≡ getD w i 0xFF
 byte-in-list [] i h = absurd (not-suc-le-zero h)
 byte-in-list (b ∷ w) zero h = refl
@@ -40,7 +40,7 @@ name-at (b ∷ w) (suc i) =
     let e : suc (i + 1) ≡ suc i + 1 = omega arith in
     name-at w i ∙ ap (λ (n : ℕ). upToFF (getD w i 0xFF ∷ drop n (b ∷ w))) e
 
--- ---- two names by their first bytes
+-- two names by their first bytes
 module _ (x y : ℕ) (s u : List ℕ) where
   pub first-ended : x ≡ 0xFF → (y ≡ 0xFF → ⊥) → Order.Before ≡ orderOf (upToFF (x ∷ s)) (upToFF (y ∷ u))
   unfolding orderOf before
