@@ -9,6 +9,7 @@ use borrow.Author.Tests.{ne-eqb}
 use lib.Dec.{eqb}
 use lib.ListN.{length, drop, getD}
 use Rattle.json.specs.Canonical.{littleEndian, items, members, canonical, canonicalItems, canonicalMembers}
+use Rattle.json.specs.Work.{upToFF}
 use Rattle.json.specs.Values.{Value, null, boolean, number, string, array, object}
 use Rattle.json.specs.Values.{Items, no-items, item, Members, no-members, member}
 use Rattle.content.proofs.Clean.{Clean, CleanItems, CleanMembers}
@@ -16,14 +17,19 @@ use Rattle.content.proofs.Fits.{array-length, object-length, item-lengt
 use Rattle.content.proofs.NumberTexts.{Below}
 
 -- ---- texts: the bytes in front of the first FF, and those behind it
-upToMark : List ℕ → List ℕ × List ℕ
-upToMark [] = ([], [])
-upToMark (b ∷ s) = cond (eqb b 0xFF) ([], s) (b ∷ upToMark s .0, upToMark s .1)
+pastFF : List ℕ → List ℕ
+pastFF [] = []
+pastFF (b ∷ s) = cond (eqb b 0xFF) s (pastFF s)
 
-mark-back : (x r : List ℕ) → Below x → upToMark (x ++ 0xFF ∷ r) ≡ (x, r)
-unfolding upToMark
-mark-back [] r h = refl
-mark-back (b ∷ x) r h = rw (ne-eqb b 0xFF (λ e. omega arith), mark-back x r (h .1))
+pub ff-ends : (x r : List ℕ) → Below x → upToFF (x ++ 0xFF ∷ r) ≡ x
+unfolding upToFF
+ff-ends [] r h = refl
+ff-ends (b ∷ x) r h = rw (ne-eqb b 0xFF (λ e. omega arith), ff-ends x r (h .1))
+
+ff-past : (x r : List ℕ) → Below x → pastFF (x ++ 0xFF ∷ r) ≡ r
+unfolding pastFF
+ff-past [] r h = refl
+ff-past (b ∷ x) r h = rw (ne-eqb b 0xFF (λ e. omega arith), ff-past x r (h .1))
 
 -- ---- counts: the number that k bytes write
 numberOf : ℕ → List ℕ → ℕ
@@ -82,8 +88,8 @@ mutual
   read (suc n) (t ∷ s) =
       cond (eqb t 0) (null, s)
       (cond (eqb t 1) (boolean (eqb (getD s 0 0) 1), drop 1 s)
-      (cond (eqb t 2) (number (upToMark s .0), upToMark s .1)
-      (cond (eqb t 3) (string (upToMark s .0), upToMark s .1)
+      (cond (eqb t 2) (number (upToFF s), pastFF s)
+      (cond (eqb t 3) (string (upToFF s), pastFF s)
       (cond (eqb t 4) (asArray (readItems n (numberOf 8 s) (drop 8 s)))
       (asObject (readMembers n (numberOf 8 s) (drop 8 s)))))))
 
@@ -96,7 +102,7 @@ mutual
   readMembers zero k s = (no-members, s)
   readMembers (suc n) zero s = (no-members, s)
   readMembers (suc n) (suc k) s =
-      addMember (upToMark s .0) (read n (upToMark s .1) .0) (readMembers n k (read n (upToMark s .1) .1))
+      addMember (upToFF s) (read n (pastFF s) .0) (readMembers n k (read n (pastFF s) .1))
 
 -- ---- it reads back
 mutual
@@ -108,8 +114,8 @@ mutual
   read-back (suc n) null r b l c = refl
   read-back (suc n) (boolean true) r b l c = refl
   read-back (suc n) (boolean false) r b l c = refl
-  read-back (suc n) (number x) r b l c = rw (append-assoc x (0xFF ∷ []) r, mark-back x r c)
-  read-back (suc n) (string x) r b l c = rw (append-assoc x (0xFF ∷ []) r, mark-back x r c)
+  read-back (suc n) (number x) r b l c = rw (append-assoc x (0xFF ∷ []) r, ff-ends x r c, ff-past x r c)
+  read-back (suc n) (string x) r b l c = rw (append-assoc x (0xFF ∷ []) r, ff-ends x r c, ff-past x r c)
   read-back (suc n) (array vs) r b l c =
       let h : length (canonicalItems vs) < n = omega (arith, array-length vs) in
       let k : items vs < 256 ^ 8 = omega (arith, items-counted vs) in
@@ -153,7 +159,8 @@ mutual
       rw (
         append-assoc x (0xFF ∷ (canonical v ++ canonicalMembers ms)) r,
         append-assoc (canonical v) (canonicalMembers ms) r,
-        mark-back x (canonical v ++ (canonicalMembers ms ++ r)) (c .0),
+        ff-ends x (canonical v ++ (canonicalMembers ms ++ r)) (c .0),
+        ff-past x (canonical v ++ (canonicalMembers ms ++ r)) (c .0),
         read-back n v (canonicalMembers ms ++ r) (omega arith) (omega arith) (c .1),
         members-back n ms r (omega arith) (omega arith) (c .2),
       )

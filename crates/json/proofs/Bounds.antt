@@ -5,25 +5,31 @@ use Prim.Native.Nat.{ℕ, zero, suc, _+_, _≤_, _<_}
 use native.Mathlib.Nat.{not-suc-le-zero, le-of-suc-le-suc}
 use native.Mathlib.Numerals.{add-one}
 use native.Mathlib.Omega.{arith}
-use lib.ListN.{length, drop, getD}
+use lib.ListN.{length, drop, getD, drop-of-length-le, List·getD-eq-default}
 use lib.Seq.{drop-cons, getD-drop}
 use Rattle.json.specs.Work.{byteAt}
 
+-- inside a list, what is read behind its last does not matter
+pub any-default : (s : List ℕ) (i d e : ℕ) → i < length s → getD s i d ≡ getD s i e
+any-default [] i d e h = absurd (not-suc-le-zero h)
+any-default (b ∷ s) zero d e h = refl
+any-default (b ∷ s) (suc i) d e h = any-default s i d e (le-of-suc-le-suc h)
+
 pub byte-at : (s : List ℕ) (i : ℕ) → i < length s → getD s i 0 ≡ byteAt s i
-byte-at [] i h = absurd (not-suc-le-zero h)
-byte-at (b ∷ s) zero h = refl
-byte-at (b ∷ s) (suc i) h = byte-at s i (le-of-suc-le-suc h)
+byte-at s i h = any-default s i 0 256 h
 
 pub byte-past : (s : List ℕ) (i : ℕ) → length s ≤ i → byteAt s i ≡ 256
-byte-past [] i h = refl
-byte-past (b ∷ s) zero h = absurd (not-suc-le-zero h)
-byte-past (b ∷ s) (suc i) h = byte-past s i (le-of-suc-le-suc h)
+byte-past s i h = List·getD-eq-default s 256 h
 
--- a byte below 256 stands in the list
+-- what is not read behind the last stands in the list
+pub inside-by : (s : List ℕ) (i d : ℕ) → (getD s i d ≡ d → ⊥) → i < length s
+inside-by [] i d h = absurd (h refl)
+inside-by (b ∷ s) zero d h = omega arith
+inside-by (b ∷ s) (suc i) d h = omega (arith, inside-by s i d h)
+
+-- a byte below 256 does
 pub byte-inside : (s : List ℕ) (i : ℕ) → byteAt s i < 256 → i < length s
-byte-inside [] i h = absurd (omega arith)
-byte-inside (b ∷ s) zero h = omega arith
-byte-inside (b ∷ s) (suc i) h = omega (arith, byte-inside s i h)
+byte-inside s i h = inside-by s i 256 (λ e. omega arith)
 
 pub byte-drop : (n : ℕ) (s : List ℕ) (i : ℕ) → byteAt (drop n s) i ≡ byteAt s (n + i)
 byte-drop n s i = getD-drop n s i 256
@@ -33,7 +39,4 @@ pub left-at : (s : List ℕ) (i : ℕ) → i < length s → drop i s ≡ byteAt 
 left-at s i h = drop-cons s i 256 h ∙ ap (λ (n : ℕ). byteAt s i ∷ drop n s) (sym (add-one i))
 
 pub left-past : (s : List ℕ) (i : ℕ) → length s ≤ i → drop i s ≡ []
-left-past [] zero h = refl
-left-past [] (suc i) h = refl
-left-past (b ∷ s) zero h = absurd (not-suc-le-zero h)
-left-past (b ∷ s) (suc i) h = left-past s i (le-of-suc-le-suc h)
+left-past s i h = drop-of-length-le s {i = i} h

@@ -82,6 +82,11 @@ unfoldable pub toMark : List ℕ → List ℕ
 toMark [] = []
 toMark (b ∷ s) = cond (eqb b 0x22 || eqb b 0x5C) (b ∷ s) (toMark s)
 
+-- in front of the first FF
+unfoldable pub upToFF : List ℕ → List ℕ
+upToFF [] = []
+upToFF (b ∷ s) = cond (eqb b 0xFF) [] (b ∷ upToFF s)
+
 -- numbers: at the longest
 unfoldable pub digits1Rest : List ℕ → Option (List ℕ)
 digits1Rest s = cond (isDigit (byteAt s 0)) (some (skipDigits (drop 1 s))) none

@@ -2,13 +2,13 @@
 use mathlib.Core.Path.{_≡_, refl, sym, _∙_, ap}
 use mathlib.Core.List.{List, [], _∷_}
 use Prim.Native.Nat.{ℕ, zero, suc, _+_, _<_}
-use native.Mathlib.Nat.{not-suc-le-zero, le-of-suc-le-suc}
 use native.Mathlib.Omega.{arith}
 use borrow.Author.Tests.{eq-eqb, ne-eqb}
 use lib.ListN.{length, drop, getD}
 use Rattle.json.specs.Content.{before}
 use Rattle.member_order.specs.declared.compare.Order.the-variants as Order
-use Rattle.member_order.specs.Names.{upToFF, nameIn, orderOf}
+use Rattle.json.specs.Work.{upToFF}
+use Rattle.member_order.specs.Names.{nameIn, orderOf}
 use Rattle.member_order.proofs.Before.{before-less, before-more, before-equal}
 
 -- a name by its first byte
@@ -19,17 +19,6 @@ name-ended b s e = rw (eq-eqb b 0xFF e)
 pub name-more : (b : ℕ) (s : List ℕ) → (b ≡ 0xFF → ⊥) → upToFF (b ∷ s) ≡ b ∷ upToFF s
 unfolding upToFF
 name-more b s n = rw (ne-eqb b 0xFF n)
-
--- the byte at a place, FF behind the last
-pub byte-in-list : (w : List ℕ) (i : ℕ) → i < length w → getD w i 0 ≡ getD w i 0xFF
-byte-in-list [] i h = absurd (not-suc-le-zero h)
-byte-in-list (b ∷ w) zero h = refl
-byte-in-list (b ∷ w) (suc i) h = byte-in-list w i (le-of-suc-le-suc h)
-
-pub no-end-inside : (w : List ℕ) (i : ℕ) → (getD w i 0xFF ≡ 0xFF → ⊥) → i < length w
-no-end-inside [] i n = absurd (n refl)
-no-end-inside (b ∷ w) zero n = omega arith
-no-end-inside (b ∷ w) (suc i) n = omega (arith, no-end-inside w i n)
 
 pub name-at : (w : List ℕ) (i : ℕ) → nameIn w i ≡ upToFF (getD w i 0xFF ∷ drop (i + 1) w)
 unfolding upToFF

@@ -7,7 +7,7 @@ use lib.Dec.{ltb, eqb}
 use lib.ListN.{length, take, drop}
 use Rattle.json.specs.Bytes.{plain, escapeOf, isScalar, joined, utf8}
 use Rattle.json.specs.Content.{before}
-use Rattle.json.specs.Work.{byteAt, hexAt, utf8Len, charLen}
+use Rattle.json.specs.Work.{byteAt, hexAt, utf8Len, charLen, upToFF}
 use Rattle.member_order.specs.declared.names.Decoded.{Decoded}
 use Rattle.member_order.specs.declared.compare.Order.{Order}
 use Rattle.member_order.specs.declared.compare.Order.the-variants as Order
@@ -44,10 +44,6 @@ pub record Decodes (x : List ℕ) (d : Decoded) : Type 0 where
   pub most : d .len ≤ 4
 
 -- a name in a list of bytes, from a place up to an FF
-unfoldable pub upToFF : List ℕ → List ℕ
-upToFF [] = []
-upToFF (b ∷ s) = cond (eqb b 0xFF) [] (b ∷ upToFF s)
-
 abbrev pub nameIn : List ℕ → ℕ → List ℕ
 nameIn w p = upToFF (drop p w)
 

@@ -3,7 +3,8 @@ ghost use mathlib.Core.Path.{_≡_};
 ghost use mathlib.Core.List.{List, _∷_};
 ghost use Prim.Native.Nat.{ℕ};
 ghost use lib.ListN.{getD};
-ghost use Rattle.member_order.specs.Names.{upToFF, nameIn, orderOf};
+ghost use Rattle.json.specs.Work.{upToFF};
+ghost use Rattle.member_order.specs.Names.{nameIn, orderOf};
 
 // How the first of two names lies to the second.
 pub enum Order {

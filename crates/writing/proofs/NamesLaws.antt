@@ -4,21 +4,17 @@ use mathlib.Core.Bool.{Bool, true, false, cond}
 use mathlib.Core.List.{List, [], _∷_, _++_, append-assoc}
 use Prim.Native.Nat.{ℕ, zero, suc, _+_, _≤_, _<_}
 use native.Mathlib.Omega.{arith}
-use borrow.Author.Tests.{ne-eqb}
 use lib.Dec.{eqb}
 use lib.ListN.{length, take, drop, length-take, length-drop, take-append-drop}
 use lib.Seq.{drop-at, drop-append-le}
-use Rattle.member_order.specs.Names.{nameAt, upToFF, nameIn}
+use Rattle.json.specs.Work.{upToFF}
+use Rattle.member_order.specs.Names.{nameAt, nameIn}
 use Rattle.content.proofs.CleanChars.{name-below}
 use Rattle.content.proofs.NumberTexts.{Below}
+use Rattle.content.proofs.ReadBack.{ff-ends}
 use Rattle.writing.specs.Places.{MemberSpans}
 use Rattle.writing.specs.Writing.{written, Named}
 use Rattle.writing.proofs.NameSteps.{name-text, name-fits}
-
-ff-ends : (x r : List ℕ) → Below x → upToFF (x ++ 0xFF ∷ r) ≡ x
-unfolding upToFF
-ff-ends [] r h = refl
-ff-ends (b ∷ x) r h = rw (ne-eqb b 0xFF (λ e. omega arith), ff-ends x r (h .1))
 
 -- what lies behind the FF does not count
 ff-front : (s y z : List ℕ) → length (upToFF (s ++ z)) < length s → upToFF (s ++ y) ≡ upToFF (s ++ z)

@@ -138,5 +138,5 @@ module _ {t : List ℕ} {at : ℕ} {o o′ : List ℕ} {pos i end : ℕ} (p : Pa
     pub partly-stuck : r .at ≡ i → PutString t at o (set o″ end 0xFF) pos (record { at = i; pos = end + 1 })
     partly-stuck k =
         let z : charLen (drop i t) ≡ 0 = omega (arith, q .at-is) in
-        rw (q .none z)
+        rw (q .none z .0)
         (partly-ends (text-stuck t i h m refl z) i (p .fits) (λ s e. absurd (no-rest (chars-stuck t i h m refl z) s e)))

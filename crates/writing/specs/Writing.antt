@@ -23,7 +23,7 @@ written at x o = take at o ++ (x ++ drop (at + length x) o)
 pub record PutChar (t : List ℕ) (at : ℕ) (out out′ : List ℕ) (pos : ℕ) (r : Spot) : Type 0 where
   pub at-is : r .at ≡ at + charLen (drop at t)
   pub some : 0 < charLen (drop at t) → (out′ ≡ written pos (charText (drop at t)) out) × (r .pos ≡ pos + length (charText (drop at t)))
-  pub none : charLen (drop at t) ≡ 0 → out′ ≡ out
+  pub none : charLen (drop at t) ≡ 0 → (out′ ≡ out) × (r .pos ≡ pos)
 
 -- a string's bytes and FF from pos on; where the string has an end, its end
 pub record PutString (t : List ℕ) (at : ℕ) (out out′ : List ℕ) (pos : ℕ) (r : Spot) : Type 0 where

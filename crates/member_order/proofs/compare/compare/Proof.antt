@@ -4,8 +4,10 @@ use mathlib.Core.List.{_∷_}
 use Prim.Native.Nat.{_+_, _-_, _<_}
 use native.Mathlib.Omega.{arith}
 use lib.ListN.{length, drop}
-use Rattle.member_order.specs.Names.{upToFF, nameIn, orderOf}
-use Rattle.member_order.proofs.NameSteps.{no-end-inside, both-ended, first-equal, order-read}
+use Rattle.json.proofs.Bounds.{inside-by}
+use Rattle.json.specs.Work.{upToFF}
+use Rattle.member_order.specs.Names.{nameIn, orderOf}
+use Rattle.member_order.proofs.NameSteps.{both-ended, first-equal, order-read}
 use Rattle.member_order.proofs.compare.compare.Statement.{statement}
 use Rattle.member_order.proofs.compare.compare.Tie as tie
 
@@ -36,7 +38,7 @@ inside c =
     let b = c .before .before in
     let l = b .before .before in
     let w = l .before .before .args .names .now in
-    (no-end-inside w (l .loop .i) (omega (arith, b .before .byte-in .ensures)), no-end-inside w (l .loop .j) (omega (arith, b .byte-in2 .ensures)))
+    (inside-by w (l .loop .i) 0xFF (λ q. omega (arith, b .before .byte-in .ensures)), inside-by w (l .loop .j) 0xFF (λ q. omega (arith, b .byte-in2 .ensures)))
 
 returns : tie.Need-returns Inv-loop μ-loop
 returns c = c .order-of .ensures _ _ ∙ read (c .before .before)

@@ -19,7 +19,7 @@ special c =
 returns : tie.Need-returns
 returns c =
     let l = special (c .before) in
-    record { at-is = omega (arith, l); some = λ h. absurd (omega (arith, l)); none = λ z. refl }
+    record { at-is = omega (arith, l); some = λ h. absurd (omega (arith, l)); none = λ z. (refl, refl) }
 
 put-char-requires : tie.Need-put-char-requires
 put-char-requires c κs =

@@ -41,7 +41,7 @@ put-header-requires t c κs =
     let a = g .collect .ensures in
     let e = g .collect .kept .1 .1 .1 .0 in
     let v = in-order w a e (z .sort .ensures .0) (z .sort .ensures .1) in
-    (omega (arith, v .room-out), v .short)
+    (omega (arith, v .room-out), omega (arith, v .short, few-members w a e .1, w .short))
 
 pub add-end : (t : ℕ) → lts.Need-add-end (object-calls t) (object-at t) reads.Post Inv-loop μ-loop
 add-end t c =
