@@ -79,7 +79,7 @@ fn shuffled(mut names: Vec<String>) -> impl Iterator<Item = String> {
 pub fn worst() -> Vec<(&'static str, Vec<u8>)> {
     const N: usize = 32_768;
     let letters = || (b'#'..=b'[').chain(b']'..=b'~').map(char::from);
-    let two = || letters().flat_map(|a| letters().map(move |b| format!("{a}{b}"))).collect();
+    let two = |front: &str| letters().flat_map(|a| letters().map(move |b| format!("{front}{a}{b}"))).collect();
     let string = |unit: &str| format!("\"{}\"", unit.repeat((N - 2) / unit.len()));
     vec![
         ("one string of plain bytes", filled(string("a"), N)),
@@ -95,7 +95,9 @@ pub fn worst() -> Vec<(&'static str, Vec<u8>)> {
         ("short names, falling", object((0..10_000u32).rev().map(|i| format!("{i:x}")), N)),
         ("short names, mixed", object((0..10_000u64).map(|i| format!("{:x}", i * 7919 % 10_007)), N)),
         ("short names, shuffled", object(shuffled((0..10_000).map(|i| format!("{i:x}")).collect()), N)),
-        ("names of two bytes, shuffled", object(shuffled(two()), N)),
+        ("names of two bytes, shuffled", object(shuffled(two("")), N)),
+        ("names of six equal bytes and two, shuffled", object(shuffled(two("pppppp")), N)),
+        ("names of a UTF-8 char, shuffled", object(shuffled((0x400..0x1C00).filter_map(char::from_u32).map(String::from).collect()), N)),
         ("one name again and again", object((0..10_000).map(|_| "a".into()), N)),
         ("names of 24 equal bytes and four, falling", object((0..5_000u32).rev().map(|i| format!("{}{i:04}", "p".repeat(24))), N)),
         ("names of 200 equal bytes and four, mixed", object((0..5_000u64).map(|i| format!("{}{:04}", "p".repeat(200), i * 37 % 151)), N)),

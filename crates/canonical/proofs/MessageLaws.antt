@@ -46,7 +46,7 @@ text-spans {t} at (text {t = f} {u} {v} w d z) k =
 module _ (t : List ℕ) (at : ℕ) (m : Message t) (k : Skips t 0 at) where
   -- room for the text is room for its value; nothing is known yet
   pub message-writable :
-      (ends places merged names out : List ℕ) → length t ≤ length ends → length t ≤ length places → length t ≤ length merged →
+      (ends places merged names out : List ℕ) → length t ≤ length ends → length t ≤ 4 * length places → length t ≤ 4 * length merged →
       length t ≤ length names → 5 * length t ≤ length out → ((p : ℕ) → getD ends p 0 ≡ 0) → Writable t ends places merged names out at 0 0
   message-writable ends places merged names out a b c e d z =
       let f = text-spans at (m .text) k in
@@ -95,12 +95,14 @@ zeros-at (suc n) (suc p) = zeros-at n p
 -- what writing a message asks for
 abbrev pub Asks : (t ends places merged names out : List ℕ) → Type 0
 Asks t ends places merged names out =
-    Message t × (length t ≤ length ends) × (length t ≤ length places) × (length t ≤ length merged)
+    Message t × (length t ≤ length ends) × (length t ≤ 4 * length places) × (length t ≤ 4 * length merged)
     × (length t ≤ length names) × (5 * length t ≤ length out) × ((p : ℕ) → getD ends p 0 ≡ 0)
 
--- lists of n zeros suffice for a message that is at most n bytes long
+-- n zeros for the ends and the names and m for the two lists of places suffice for a message of at most n and at most 4 * m bytes
 pub zeros-suffice :
-    (n : ℕ) (t out : List ℕ) → Message t → length t ≤ n → 5 * length t ≤ length out → Asks t (zeros n) (zeros n) (zeros n) (zeros n) out
-zeros-suffice n t out m h k =
-    let l : length t ≤ length (zeros n) = omega (arith, zeros-length n) in
-    (m, l, l, l, l, k, zeros-at n)
+    (n m : ℕ) (t out : List ℕ) → Message t → length t ≤ n → length t ≤ 4 * m → 5 * length t ≤ length out →
+    Asks t (zeros n) (zeros m) (zeros m) (zeros n) out
+zeros-suffice n m t out x h q k =
+    let a : length t ≤ length (zeros n) = omega (arith, zeros-length n) in
+    let b : length t ≤ 4 * length (zeros m) = omega (arith, zeros-length m) in
+    (x, a, b, b, a, k, zeros-at n)

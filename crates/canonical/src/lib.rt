@@ -17,13 +17,13 @@ pub enum Answer {
 fn write_message(
     text: &[u8],
     ends: &mut [u16],
-    places: &mut [u16],
-    merged: &mut [u16],
+    places: &mut [u64],
+    merged: &mut [u64],
     names: &mut [u8],
     out: &mut [u8],
 ) -> usize
-    requires { ⌜ Message (now text) × (length (now text) ≤ length (now ends)) × (length (now text) ≤ length (now places))
-        × (length (now text) ≤ length (now merged)) × (length (now text) ≤ length (now names)) × (5 * length (now text) ≤ length (now out))
+    requires { ⌜ Message (now text) × (length (now text) ≤ length (now ends)) × (length (now text) ≤ 4 * length (now places))
+        × (length (now text) ≤ 4 * length (now merged)) × (length (now text) ≤ length (now names)) × (5 * length (now text) ≤ length (now out))
         × ((p : ℕ) → getD (now ends) p 0 ≡ 0) ⌝ }
     ensures { λ r. ⌜ WroteMessage (now (text .entry)) (now (out .entry)) (now (out .exit)) r ⌝ }
 {
@@ -38,8 +38,8 @@ pub fn write_512(text: &[u8], out: &mut [u8]) -> usize
     ensures { λ r. ⌜ WroteMessage (now (text .entry)) (now (out .entry)) (now (out .exit)) r ⌝ }
 {
     let mut ends = [0u16; 512];
-    let mut places = [0u16; 512];
-    let mut merged = [0u16; 512];
+    let mut places = [0u64; 128];
+    let mut merged = [0u64; 128];
     let mut names = [0u8; 512];
     write_message(text, &mut ends, &mut places, &mut merged, &mut names, out)
 }
@@ -50,8 +50,8 @@ pub fn write_4096(text: &[u8], out: &mut [u8]) -> usize
     ensures { λ r. ⌜ WroteMessage (now (text .entry)) (now (out .entry)) (now (out .exit)) r ⌝ }
 {
     let mut ends = [0u16; 4096];
-    let mut places = [0u16; 4096];
-    let mut merged = [0u16; 4096];
+    let mut places = [0u64; 1024];
+    let mut merged = [0u64; 1024];
     let mut names = [0u8; 4096];
     write_message(text, &mut ends, &mut places, &mut merged, &mut names, out)
 }
@@ -62,8 +62,8 @@ pub fn write_32768(text: &[u8], out: &mut [u8]) -> usize
     ensures { λ r. ⌜ WroteMessage (now (text .entry)) (now (out .entry)) (now (out .exit)) r ⌝ }
 {
     let mut ends = [0u16; 32768];
-    let mut places = [0u16; 32768];
-    let mut merged = [0u16; 32768];
+    let mut places = [0u64; 8192];
+    let mut merged = [0u64; 8192];
     let mut names = [0u8; 32768];
     write_message(text, &mut ends, &mut places, &mut merged, &mut names, out)
 }

@@ -1,5 +1,5 @@
 -- How two names lie: `before` is a strict total order, and what `orderOf` says of it.
-use mathlib.Core.Path.{_≡_, refl, sym, _∙_, subst⁻¹}
+use mathlib.Core.Path.{_≡_, refl, sym, _∙_}
 use mathlib.Core.Bool.{Bool, true, false}
 use mathlib.Core.List.{List, [], _∷_}
 use Prim.Native.Nat.{ℕ, _<_}
@@ -34,12 +34,12 @@ unfolding before
 before-equal a b x y h = rw (le-ltb a b (omega arith), le-ltb b a (omega arith))
 
 -- the first bytes: less, more or equal
-data Bytes (a b : ℕ) : Type 0 where
+pub data Bytes (a b : ℕ) : Type 0 where
   less : a < b → Bytes a b
   more : b < a → Bytes a b
   equal : a ≡ b → Bytes a b
 
-bytes : (a b : ℕ) → Bytes a b
+pub bytes : (a b : ℕ) → Bytes a b
 bytes a b = go (ltb a b) (ltb b a) refl refl
   where
     go : (s t : Bool) → ltb a b ≡ s → ltb b a ≡ t → Bytes a b
@@ -100,12 +100,12 @@ lies x y = go (before x y) (before y x) refl refl
     go false false p q = same (same-unless-before x y p q)
 
 -- what an order says of two names
-abbrev Says : List ℕ → List ℕ → Order → Type 0
+abbrev pub Says : List ℕ → List ℕ → Order → Type 0
 Says x y Order.Before = before x y ≡ true
 Says x y Order.Same = x ≡ y
 Says x y Order.After = before y x ≡ true
 
-order-says : (x y : List ℕ) → Says x y (orderOf x y)
+pub order-says : (x y : List ℕ) → Says x y (orderOf x y)
 unfolding orderOf
 order-says x y = go (before x y) (before y x) refl refl
   where
@@ -113,15 +113,6 @@ order-says x y = go (before x y) (before y x) refl refl
     go true t p q = p
     go false true p q = q
     go false false p q = same-unless-before x y p q
-
-pub order-before : (x y : List ℕ) → Order.Before ≡ orderOf x y → before x y ≡ true
-order-before x y e = subst⁻¹ (Says x y) e (order-says x y)
-
-pub order-after : (x y : List ℕ) → Order.After ≡ orderOf x y → before y x ≡ true
-order-after x y e = subst⁻¹ (Says x y) e (order-says x y)
-
-pub order-same : (x y : List ℕ) → Order.Same ≡ orderOf x y → x ≡ y
-order-same x y e = subst⁻¹ (Says x y) e (order-says x y)
 
 -- the order of the names at two places, from that of the names at equal places
 pub order-at : (name : ℕ → List ℕ) (p q p′ q′ : ℕ) (o k : Order) → p′ ≡ p → q′ ≡ q → o ≡ orderOf (name p′) (name q′) → o ≡ k

@@ -140,6 +140,9 @@ module _ (name : ℕ → List ℕ) where
   each-insertAll P (p ∷ x) y f g =
       each-insert P p (insertAll name x y) (each-head P p x f) (each-insertAll P x y (each-tail P p x f) g)
 
+  pub each-ordered : (P : ℕ → Type 0) (x : List ℕ) → Each P x → Each P (ordered name x)
+  each-ordered P x f = each-insertAll P x [] f (each-nil P)
+
 -- ---- only the names of these places are looked at
 module _ (f g : ℕ → List ℕ) where
   insert-same-names :

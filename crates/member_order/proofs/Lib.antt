@@ -2,11 +2,17 @@ pub mod TextLaws
 pub mod TextSteps
 pub mod DecodeLaws
 pub mod Before
+pub mod CodeOrder
 pub mod NameSteps
+pub mod CodeSteps
+pub mod CodeSame
 pub mod Insert
 pub mod Merging
 pub mod Runs
 pub mod Picking
 pub mod Merged
 pub mod Rewriting
+pub mod Making
 pub mod Sorting
+pub mod Words
+pub mod Pairs

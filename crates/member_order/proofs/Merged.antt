@@ -1,4 +1,4 @@
--- Two lists merged place by place in front of another list.
+-- Two lists merged word by word in front of another list.
 use mathlib.Core.Path.{_≡_, refl, sym, _∙_, ap}
 use mathlib.Core.List.{List, [], _++_}
 use Prim.Native.Nat.{ℕ, _+_, _≤_, _<_}
@@ -10,7 +10,7 @@ use Rattle.rules.proofs.ListLaws.{append-nil}
 use Rattle.member_order.specs.declared.sort.Picked.{Picked}
 use Rattle.member_order.specs.Order.{insertAll, run, Picks}
 
--- of x the first i are read and of y the first j; count places are made of them
+-- of x the first i are read and of y the first j; count words are made of them
 pub record Merged (name : ℕ → List ℕ) (x y m : List ℕ) (i j count : ℕ) : Type 0 where
   pub left : i ≤ length x
   pub right : j ≤ length y
@@ -22,16 +22,16 @@ module _ (name : ℕ → List ℕ) (x y m : List ℕ) where
   merged-none = record { left = omega arith; right = omega arith; few = omega arith; is = refl }
 
   module _ (i j count : ℕ) (d : Merged name x y m i j count) where
-    pub merged-more : (p : Picked) → count < length m → Picks name x y i j p → Merged name x y (set m count (p .place)) (p .i) (p .j) (count + 1)
+    pub merged-more : (p : Picked) → count < length m → Picks name x y i j p → Merged name x y (set m count (p .word)) (p .i) (p .j) (count + 1)
     merged-more p h k =
         record {
           left = k .4;
           right = k .5;
           few = omega (arith, d .few, k .3);
           is =
-              ap (λ (n : ℕ). take n (set m count (p .place)) ++ insertAll name (drop (p .i) x) (drop (p .j) y)) (add-one count)
-              ∙ ap (λ (l : List ℕ). l ++ insertAll name (drop (p .i) x) (drop (p .j) y)) (take-suc-set m count (p .place) h)
-              ∙ append-snoc (take count m) (p .place) (insertAll name (drop (p .i) x) (drop (p .j) y))
+              ap (λ (n : ℕ). take n (set m count (p .word)) ++ insertAll name (drop (p .i) x) (drop (p .j) y)) (add-one count)
+              ∙ ap (λ (l : List ℕ). l ++ insertAll name (drop (p .i) x) (drop (p .j) y)) (take-suc-set m count (p .word) h)
+              ∙ append-snoc (take count m) (p .word) (insertAll name (drop (p .i) x) (drop (p .j) y))
               ∙ ap (λ (l : List ℕ). take count m ++ l) (sym (k .0))
               ∙ d .is;
         }

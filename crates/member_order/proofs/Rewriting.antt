@@ -13,7 +13,7 @@ use Rattle.member_order.proofs.Runs.{run-take}
 pub copied-none : (v m : List ℕ) (low : ℕ) → Rewritten v low 0 (run m 0 0) v
 copied-none v m low = record { size = refl; few = omega arith; is = refl; below = refl; above = refl }
 
-drop-more : (v w : List ℕ) (n k : ℕ) → n ≤ k → drop n w ≡ drop n v → drop k w ≡ drop k v
+pub drop-more : (v w : List ℕ) (n k : ℕ) → n ≤ k → drop n w ≡ drop n v → drop k w ≡ drop k v
 drop-more v w n k h e =
     let q : n + (k - n) ≡ k = omega arith in
     rw (← q, ← drop-drop (k - n) n w, ← drop-drop (k - n) n v, e)

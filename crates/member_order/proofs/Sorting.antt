@@ -6,9 +6,9 @@ use native.Mathlib.Omega.{arith}
 use lib.ListN.{length, take}
 use lib.Seq.{length-take-le}
 use Rattle.member_order.specs.Order.{insert, insertAll, ordered, run, Rising, Rewritten}
-use Rattle.member_order.proofs.Insert.{ordered-append}
+use Rattle.member_order.proofs.Insert.{Each, ordered-append, each-ordered}
 use Rattle.member_order.proofs.Merging.{rising-ordered}
-use Rattle.member_order.proofs.Runs.{length-run, run-split}
+use Rattle.member_order.proofs.Runs.{length-run, run-split, each-part}
 use Rattle.member_order.proofs.Rewriting.{rewritten-second, rewritten-over}
 
 -- fewer than two are in order
@@ -34,6 +34,9 @@ module _ (name : ℕ → List ℕ) (u v w : List ℕ) (low n h a b : ℕ) (fits 
   -- the second part is still to be sorted
   run-still : run v (low + h) (n - h) ≡ run u (low + h) (n - h)
   run-still = ap (take (n - h)) (first .0 .above)
+
+  pub second-each : (P : ℕ → Type 0) → Each P (run u low n) → Each P (run v (low + h) (n - h))
+  second-each P e = rw run-still (each-part P u low n (low + h) (n - h) fits (omega arith) (omega arith) e)
 
   module _ (second : Sorted name v (low + h) (n - h) w b) where
     few-left : a ≤ h
@@ -64,14 +67,17 @@ module _ (name : ℕ → List ℕ) (u v w : List ℕ) (low n h a b : ℕ) (fits 
         ∙ ap (ordered name) (sym (run-split u low h (n - h)) ∙ ap (run u low) q))
 
     -- what merge asks
-    pub parts-to-merge : (m : ℕ) → n ≤ m
+    pub parts-to-merge : (m : ℕ) → n ≤ m → (P : ℕ → Type 0) → Each P (run u low n)
         → (low + a ≤ length w) × (low + h + b ≤ length w) × (a + b ≤ m) × Rising name (run w low a) × Rising name (run w (low + h) b)
-    parts-to-merge m k = (
+        × Each P (run w low a) × Each P (run w (low + h) b)
+    parts-to-merge m k P e = (
       omega (arith, few-left, size),
       omega (arith, few-right, size),
       omega (arith, few-left, few-right),
       rw run-left (rising-ordered name (run u low h)),
       rw run-right (rising-ordered name (run u (low + h) (n - h))),
+      rw run-left (each-ordered name P (run u low h) (each-part P u low n low h fits (omega arith) (omega arith) e)),
+      rw run-right (each-ordered name P (run u (low + h) (n - h)) (each-part P u low n (low + h) (n - h) fits (omega arith) (omega arith) e)),
     )
 
     -- what is copied back

@@ -5,6 +5,8 @@ use mathlib.Core.List.{List, [], _∷_}
 use Prim.Native.Nat.{ℕ, _+_, _≤_, _<_}
 use lib.ListN.{length, take, drop, getD}
 use Rattle.json.specs.Content.{before}
+use Rattle.member_order.specs.declared.compare.Order.{Order}
+use Rattle.member_order.specs.declared.compare.Order.the-variants as Order
 use Rattle.member_order.specs.declared.sort.Picked.{Picked}
 
 -- a place in front of others that lie in order
@@ -27,10 +29,20 @@ ordered name ps = insertAll name ps []
 abbrev pub run : List ℕ → (from n : ℕ) → List ℕ
 run w from n = take n (drop from w)
 
+-- places that sixteen bits hold
+abbrev pub Short : List ℕ → Type 0
+Short x = (i : ℕ) → i < length x → getD x i 0 < 65536
+
+-- what is picked of two words by how their names lie; of equal names the later one
+abbrev pub pickBy : Order → (x y i j : ℕ) → Picked
+pickBy Order.Before x y i j = record { word = x; i = i + 1; j = j }
+pickBy Order.Same x y i j = record { word = y; i = i + 1; j = j + 1 }
+pickBy Order.After x y i j = record { word = y; i = i; j = j + 1 }
+
 -- the first of a list that picks is made of
 abbrev pub Picks : (name : ℕ → List ℕ) → (x y : List ℕ) (i j : ℕ) → Picked → Type 0
 Picks name x y i j p =
-    (insertAll name (drop i x) (drop j y) ≡ p .place ∷ insertAll name (drop (p .i) x) (drop (p .j) y))
+    (insertAll name (drop i x) (drop j y) ≡ p .word ∷ insertAll name (drop (p .i) x) (drop (p .j) y))
     × (i ≤ p .i) × (j ≤ p .j) × (i + j < p .i + p .j) × (p .i ≤ length x) × (p .j ≤ length y)
 
 -- names rise from place to place

@@ -14,7 +14,7 @@ pub enum Order {
 }
 
 // The byte at a place, FF behind the last.
-fn byte_in(names: &[u8], at: usize) -> u8
+pub fn byte_in(names: &[u8], at: usize) -> u8
     ensures { λ r. ⌜ r ≡ getD (now (names .entry)) at 0xFF ⌝ }
 {
     if at < names.len() { names[at] } else { 0xFF }

@@ -1,7 +1,7 @@
 -- The places of an object's names, and the names, put down one by one.
 use mathlib.Core.Path.{_≡_, refl, _∙_, ap, subst}
 use mathlib.Core.List.{List, [], _∷_, _++_, append-assoc}
-use Prim.Native.Nat.{ℕ, _+_, _-_, _≤_, _<_}
+use Prim.Native.Nat.{ℕ, _+_, _-_, _*_, _≤_, _<_}
 use native.Mathlib.Numerals.{add-one}
 use native.Mathlib.Omega.{arith}
 use lib.ListN.{length, take, drop, set, length-drop, length-set}
@@ -14,6 +14,7 @@ use Rattle.member_order.specs.Names.{nameAt}
 use Rattle.member_order.specs.Order.{run}
 use Rattle.writing.specs.Places.{Spans, MemberSpans, Ends, Holds, Lie, none-lie, one-lies, laid}
 use Rattle.writing.specs.Writing.{written, Gathered}
+use Rattle.writing.proofs.NameSteps.{name-fits, member-takes}
 use Rattle.writing.proofs.NamesLaws.{Noted, noted-named, noted-more}
 use Rattle.writing.proofs.Objects.{First, InObject, object-none, object-first, member-first, first-inside, object-over, object-next}
 use Rattle.writing.proofs.Spanning.{member-one, Skips}
@@ -32,11 +33,11 @@ pub record Gathering (t places₀ places names : List ℕ) (at top i count : ℕ
   pub value : spans .value ≡ object members
   pub rest : Members
   pub walk : InObject t at end i rest
-  pub room : top + (end - at) ≤ length places
-  pub few : at + count < i
+  pub room : 4 * top + (end - at) ≤ 4 * length places
+  pub few : at + 4 * count < i
   pub kept : take top places ≡ take top places₀
   pub lies :
-      (n : ℕ) (qs : List ℕ) → i - at - count ≤ n → Lie t n qs (laid rest) → Lie t n (run places top count ++ qs) (laid members)
+      (n : ℕ) (qs : List ℕ) → i - at - 4 * count ≤ n → Lie t n qs (laid rest) → Lie t n (run places top count ++ qs) (laid members)
   pub noted : Noted t names i (run places top count)
 
 value-to :
@@ -60,7 +61,7 @@ module _ (t places names : List ℕ) (at top e i b : ℕ) (s : Spans t at e) (h 
         named = noted-named t names 0 [] tt;
       }
 
-  pub gathering-starts : top + (e - at) ≤ length places → (b ≡ 0x7D → ⊥) → Gathering t places places names at top i 0
+  pub gathering-starts : 4 * top + (e - at) ≤ 4 * length places → (b ≡ 0x7D → ⊥) → Gathering t places places names at top i 0
   gathering-starts r z =
       let o = object-first t at e i b s h k q z in
       record {
@@ -84,13 +85,13 @@ module _ (t p₀ p w : List ℕ) (at top i count : ℕ) (g : Gathering t p₀ p 
   pub place-inside : top + count < length p
   place-inside =
       let f = here in
-      omega (arith, g .room, g .few, f .spans .behind, f .spans .spans .on, first-inside t i (g .end) (g .rest) f (g .spans .fits))
+      omega (arith, g .room, g .few, member-takes (f .spans), first-inside t i (g .end) (g .rest) f (g .spans .fits))
 
   after : List ℕ
   after = set p (top + count) i
 
   lies-on :
-      (n : ℕ) (qs : List ℕ) → i - at - count ≤ n → here .end - here .spans .at ≤ n → Lie t n qs (laid (here .rest)) →
+      (n : ℕ) (qs : List ℕ) → i - at - 4 * count ≤ n → here .end - here .spans .at ≤ n → Lie t n qs (laid (here .rest)) →
       Lie t n (run after top (count + 1) ++ qs) (laid (g .members))
   unfolding laid after
   lies-on n qs h k l =
@@ -115,10 +116,10 @@ module _ (t p₀ p w : List ℕ) (at top i count : ℕ) (g : Gathering t p₀ p 
         let o = object-over t at (g .end) i n j b (g .rest) f s k q (g .spans .fits) z in
         let v = value-to t at (g .end) (j + 1) (g .members) (g .spans) (g .value) (o .1) in
         let m = member-one t i (f .end) n (f .spans) s in
-        let d : Lie t (j + 1 - at - (count + 1)) [] (laid (f .rest)) = rw (o .0) none-lie in
+        let d : Lie t (j + 1 - at - 4 * (count + 1)) [] (laid (f .rest)) = rw (o .0) none-lie in
         let l =
-        lies-on (j + 1 - at - (count + 1)) [] (omega (arith, g .few, s .behind, s .spans .on, k .1))
-        (omega (arith, g .few, f .spans .behind, f .spans .spans .on, k .1)) d in
+        lies-on (j + 1 - at - 4 * (count + 1)) [] (omega (arith, g .few, member-takes s, k .1))
+        (omega (arith, g .few, name-fits (f .spans), f .spans .spans .on, k .1)) d in
         record {
           known = y;
           kept = take-set-le top p (top + count) i (omega arith) ∙ g .kept;
@@ -126,7 +127,7 @@ module _ (t p₀ p w : List ℕ) (at top i count : ℕ) (g : Gathering t p₀ p 
           spans = v .0;
           value = v .1;
           lie = rw append-nil at l;
-          few = omega (arith, g .few, s .behind, s .spans .on, k .1);
+          few = omega (arith, g .few, member-takes s, k .1);
           named = noted-named t w′ n (run after top (count + 1)) (noted-on n (omega arith));
         }
 
@@ -144,10 +145,10 @@ module _ (t p₀ p w : List ℕ) (at top i count : ℕ) (g : Gathering t p₀ p 
           rest = f .rest;
           walk = o;
           room = omega (arith, g .room, length-set p (top + count) i);
-          few = omega (arith, g .few, s .behind, s .spans .on, k .1, y .1);
+          few = omega (arith, g .few, member-takes s, k .1, y .1);
           kept = take-set-le top p (top + count) i (omega arith) ∙ g .kept;
           lies = λ r qs l d.
-              lies-on r qs (omega (arith, g .few, s .behind, s .spans .on, k .1, y .1))
-              (omega (arith, g .few, f .spans .behind, f .spans .spans .on, k .1, y .1)) d;
+              lies-on r qs (omega (arith, g .few, member-takes s, k .1, y .1))
+              (omega (arith, g .few, name-fits (f .spans), f .spans .spans .on, k .1, y .1)) d;
           noted = noted-on m (omega (arith, k .1, y .1));
         }

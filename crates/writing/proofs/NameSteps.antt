@@ -42,11 +42,15 @@ module _ {t : List ℕ} {at e : ℕ} (m : MemberSpans t at e) where
   pub name-text : nameAt t at ≡ m .name
   name-text = ap charsText (sym (behind-here t at)) ∙ chars-text (parts .chars)
 
-  -- there is room for the name and FF in front of the value
-  pub name-fits : at + length (nameAt t at) + 1 ≤ m .at
+  -- there is room for the name, its marks and its colon in front of the value
+  pub name-fits : at + length (nameAt t at) + 3 ≤ m .at
   name-fits =
       let n = name-length (m .named) in
       omega (arith, ap length name-text, length-drop at t, length-drop (m .at) t, m .spans .on, m .spans .fits)
+
+  -- a member takes four bytes or more
+  pub member-takes : at + 4 ≤ e
+  member-takes = omega (arith, name-fits, m .spans .on)
 
   -- behind the name
   module _ (r : ℕ) (p : (s : List ℕ) → charsRest (drop (at + 1) t) ≡ some s → drop r t ≡ s) where

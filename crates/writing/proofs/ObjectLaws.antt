@@ -1,7 +1,7 @@
 -- Writing an object: its header, then its members in the order of their names.
 use mathlib.Core.Path.{_≡_, refl, sym, _∙_, ap, subst}
 use mathlib.Core.List.{List, _∷_, _++_}
-use Prim.Native.Nat.{ℕ, _+_, _-_, _≤_, _<_}
+use Prim.Native.Nat.{ℕ, _+_, _-_, _*_, _≤_, _<_}
 use native.Mathlib.Omega.{arith}
 use lib.ListN.{length, take, getD, length-append}
 use lib.Seq.{getD-take, take-take}
@@ -11,7 +11,7 @@ use Rattle.json.specs.Refusals.{longest}
 use Rattle.json.specs.Values.{Value, object, Members}
 use Rattle.json.proofs.OneValue.{val-only}
 use Rattle.member_order.specs.Names.{nameAt, nameIn}
-use Rattle.member_order.specs.Order.{ordered, run, Rewritten}
+use Rattle.member_order.specs.Order.{ordered, run, Short, Rewritten}
 use Rattle.member_order.proofs.Insert.{ordered-same}
 use Rattle.member_order.proofs.Runs.{getD-run, length-run}
 use Rattle.writing.specs.declared.collect.Collected.{Collected}
@@ -38,12 +38,12 @@ pub record Ordered (t places out : List ℕ) (at top pos end count : ℕ) : Type
   pub room : ℕ
   pub lie : Lie t room (run places top count) all
   pub number : members all ≡ count
-  pub room-places : top + (count + room) ≤ length places
+  pub room-places : 4 * (top + count) + room ≤ 4 * length places
   pub room-out : pos + (9 + length (canonicalMembers all)) ≤ length out
   pub short : count ≤ longest
 
 module _ {t ends places merged names out : List ℕ} {at top pos : ℕ} (w : Writable t ends places merged names out at top pos) where
-  pub skippable : (s : Skippable t ends at) × (top + (s .end - at) ≤ length places)
+  pub skippable : (s : Skippable t ends at) × (4 * top + (s .end - at) ≤ 4 * length places)
   skippable =
       (record { short = w .short; known = w .known; room = w .room-ends; end = w .end; spans = w .spans }, w .room-places)
 
@@ -56,11 +56,17 @@ module _ {t ends places merged names out : List ℕ} {at top pos : ℕ} (w : Wri
         let o = val-only (s .is) (s .stop) (z .is) (z .stop) in
         (o .0, one-place t (w .end) (r .end) (o .1) (s .fits) (z .fits))
 
-    pub few-members : (top + r .count ≤ length places₁) × (r .count ≤ length t)
+    pub few-members : (top + r .count ≤ length places₁) × (4 * r .count ≤ length t)
     few-members =
         let e = one-end .1 in
         let s = g .spans in
         (omega (arith, w .room-places, g .few), omega (arith, g .few, s .fits))
+
+    -- the places are the text's, which is short
+    pub places-short : Short (run places₁ top (r .count))
+    places-short i h =
+        let s = lie-at (g .lie) i h .holds .spans in
+        omega (arith, w .short, s .behind, s .spans .on, s .spans .fits)
 
     module _ {places₂ : List ℕ} {count : ℕ} (z : Rewritten places₁ top (r .count) (ordered (nameIn names₁) (run places₁ top (r .count))) places₂)
         (n : count ≡ length (ordered (nameIn names₁) (run places₁ top (r .count)))) where
@@ -77,7 +83,7 @@ module _ {t ends places merged names out : List ℕ} {at top pos : ℕ} (w : Wri
           let ms = g .members in
           let a = puts (laid ms) in
           let q = ordered (nameAt t) (run places₁ top (r .count)) in
-          let l : Lie t (r .end - at - r .count) q a = lie-ordered t _ (g .lie) in
+          let l : Lie t (r .end - at - 4 * r .count) q a = lie-ordered t _ (g .lie) in
           let k : run places₂ top count ≡ q = rw n (z .is) ∙ by-text in
           let m : members a ≡ count = sym (n ∙ ap length by-text ∙ lie-length l) in
           let f = ap (λ (v : Value). canonical (content v)) (g .value) in
@@ -90,7 +96,7 @@ module _ {t ends places merged names out : List ℕ} {at top pos : ℕ} (w : Wri
             spans = s;
             all = a;
             bytes = b;
-            room = r .end - at - r .count;
+            room = r .end - at - 4 * r .count;
             lie = rw k l;
             number = m;
             room-places = omega (arith, w .room-places, z .few, z .size, g .few);
@@ -161,7 +167,7 @@ module _
           canonicalMembers (firstMembers i ms) ++ memberBytes (stands .spans .name) (stands .spans .spans .value)
       next-bytes = held .next ∙ ap (λ (x : List ℕ). canonicalMembers (firstMembers i ms) ++ x) (sym stands-bytes)
 
-    pub member-writable : length t ≤ longest → length t ≤ length ends₀ → length t ≤ length merged₀ → length t ≤ length names₀
+    pub member-writable : length t ≤ longest → length t ≤ length ends₀ → length t ≤ 4 * length merged₀ → length t ≤ length names₀
         → WritableMember t ends places merged names out q (top + count) end
     member-writable a b c d =
         let k = stands (s .room) (s .all) (s .lie) in

@@ -2,7 +2,7 @@
 use mathlib.Core.Path.{_≡_}
 use mathlib.Core.List.{List, [], _∷_, _++_}
 use mathlib.Core.Option.{some}
-use Prim.Native.Nat.{ℕ, _+_, _-_, _≤_, _<_}
+use Prim.Native.Nat.{ℕ, _+_, _-_, _*_, _≤_, _<_}
 use lib.ListN.{length, take, drop, getD}
 use Rattle.json.specs.Canonical.{canonical}
 use Rattle.json.specs.Content.{content}
@@ -51,15 +51,15 @@ pub record SkippableMember (t ends : List ℕ) (at : ℕ) : Type 0 where
 abbrev pub Named : (t w qs : List ℕ) → Type 0
 Named t w qs = (i : ℕ) → i < length qs → nameIn w (getD qs i 0) ≡ nameAt t (getD qs i 0)
 
--- an object's members: the places of their names, in the order of the text, from top on, and the names
+-- an object's members: the places of their names, in the order of the text, from top on, and the names; each takes four bytes of the text or more
 pub record Gathered (t ends′ places places′ names′ : List ℕ) (at top : ℕ) (r : Collected) : Type 0 where
   pub known : Ends t ends′
   pub kept : take top places′ ≡ take top places
   pub members : Members
   pub spans : Spans t at (r .end)
   pub value : spans .value ≡ object members
-  pub lie : Lie t (r .end - at - r .count) (run places′ top (r .count)) (laid members)
-  pub few : r .count ≤ r .end - at
+  pub lie : Lie t (r .end - at - 4 * r .count) (run places′ top (r .count)) (laid members)
+  pub few : 4 * r .count ≤ r .end - at
   pub named : Named t names′ (run places′ top (r .count))
 
 -- what writing a string, number or literal asks for, and what it leaves
@@ -83,11 +83,11 @@ pub record Writable (t ends places merged names out : List ℕ) (at top pos : �
   pub short : length t ≤ longest
   pub known : Ends t ends
   pub room-ends : length t ≤ length ends
-  pub room-merged : length t ≤ length merged
+  pub room-merged : length t ≤ 4 * length merged
   pub room-names : length t ≤ length names
   pub end : ℕ
   pub spans : Spans t at end
-  pub room-places : top + (end - at) ≤ length places
+  pub room-places : 4 * top + (end - at) ≤ 4 * length places
   pub room-out : pos + length (canonical (content (spans .value))) ≤ length out
 
 -- the same of a member
@@ -95,11 +95,11 @@ pub record WritableMember (t ends places merged names out : List ℕ) (at top po
   pub short : length t ≤ longest
   pub known : Ends t ends
   pub room-ends : length t ≤ length ends
-  pub room-merged : length t ≤ length merged
+  pub room-merged : length t ≤ 4 * length merged
   pub room-names : length t ≤ length names
   pub end : ℕ
   pub spans : MemberSpans t at end
-  pub room-places : top + (end - spans .at) ≤ length places
+  pub room-places : 4 * top + (end - spans .at) ≤ 4 * length places
   pub room-out : pos + length (memberBytes (spans .name) (spans .spans .value)) ≤ length out
 
 pub record WroteMember (t ends′ places places′ out out′ : List ℕ) (at top pos next : ℕ) : Type 0 where

@@ -5,7 +5,7 @@ use json::bytes::byte;
 use json::bytes::skip_ws;
 ghost use mathlib.Core.Path.{_≡_};
 ghost use mathlib.Core.List.{[], _∷_, _++_};
-ghost use Prim.Native.Nat.{_+_, _-_, _≤_};
+ghost use Prim.Native.Nat.{_+_, _-_, _*_, _≤_};
 ghost use lib.ListN.{length};
 ghost use Rattle.json.specs.Work.{byteAt};
 ghost use Rattle.member_order.specs.Names.{nameAt};
@@ -35,11 +35,11 @@ pub fn collect(
     text: &[u8],
     at: usize,
     ends: &mut [u16],
-    places: &mut [u16],
+    places: &mut [u64],
     names: &mut [u8],
     top: usize,
 ) -> Collected
-    requires { ⌜ ((s : Skippable (now text) (now ends) at) × (top + (s .end - at) ≤ length (now places))) × (byteAt (now text) at ≡ 0x7B)
+    requires { ⌜ ((s : Skippable (now text) (now ends) at) × (4 * top + (s .end - at) ≤ 4 * length (now places))) × (byteAt (now text) at ≡ 0x7B)
         × (length (now text) ≤ length (now names)) ⌝ }
     ensures { λ r. ⌜ Gathered (now (text .entry)) (now (ends .exit)) (now (places .entry)) (now (places .exit)) (now (names .exit)) at top r ⌝ }
 {
@@ -49,7 +49,7 @@ pub fn collect(
         return Collected { count, end: i + 1 };
     }
     loop {
-        places[top + count] = i as u16;
+        places[top + count] = i as u64;
         count += 1;
         let end = note_member(text, i, ends, names);
         let behind = skip_ws(text, end);

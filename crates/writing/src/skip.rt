@@ -7,7 +7,6 @@ use json::bytes::skip_ws;
 use json::names::literal_end;
 use json::numbers::number_end;
 use json::strings::skip_string;
-use member_order::sort::wide;
 ghost use Prim.Native.Nat.{ℕ, _≤_};
 ghost use lib.ListN.{length};
 ghost use mathlib.Core.Path.{_≡_};
@@ -15,6 +14,12 @@ ghost use Rattle.json.specs.Refusals.{longest};
 ghost use Rattle.json.specs.Work.{byteAt};
 ghost use Rattle.writing.specs.Places.{placeOf, Spans, Ends, MemberSpans};
 ghost use Rattle.writing.specs.Writing.{Skippable, SkippableMember};
+
+fn wide(x: u16) -> usize
+    ensures { λ r. ⌜ r ≡ x ⌝ }
+{
+    x as usize
+}
 
 fn place_of(end: End) -> usize
     ensures { λ r. ⌜ r ≡ placeOf end ⌝ }

@@ -8,10 +8,10 @@ use Rattle.member_order.proofs.sort.copy_back.Statement.{statement}
 use Rattle.member_order.proofs.sort.copy_back.Tie as tie
 
 abbrev Inv-loop : tie.InvT-loop
-Inv-loop merged places₀ low n i₀ places i = (i ≤ n) × Rewritten places₀ low i (run merged 0 i) places
+Inv-loop merged words₀ low n i₀ words i = (i ≤ n) × Rewritten words₀ low i (run merged 0 i) words
 
 abbrev μ-loop : tie.MeasureT-loop
-μ-loop merged places₀ low n i₀ places i = n - i
+μ-loop merged words₀ low n i₀ words i = n - i
 
 loop-holds : tie.Need-loop-holds Inv-loop μ-loop
 loop-holds c = (omega arith, copied-none _ (c .args .merged .now) _)

@@ -3,6 +3,7 @@ use Prim.Native.Nat.{_+_, _≤_, _-_}
 use native.Mathlib.Omega.{arith}
 use borrow.Author.Needs.{needs}
 use lib.ListN.{length, length-set}
+use Rattle.member_order.specs.Codes.{nameOf}
 use Rattle.member_order.specs.Names.{nameIn}
 use Rattle.member_order.specs.Order.{run}
 use Rattle.member_order.proofs.Runs.{length-run}
@@ -11,12 +12,12 @@ use Rattle.member_order.proofs.sort.merge.Statement.{statement}
 use Rattle.member_order.proofs.sort.merge.Tie as tie
 
 abbrev Inv-loop : tie.InvT-loop
-Inv-loop names places merged₀ low a middle b i₀ j₀ count₀ merged i j count =
+Inv-loop names words merged₀ low a middle b i₀ j₀ count₀ merged i j count =
     (length merged ≡ length merged₀) × (i ≤ a) × (j ≤ b) × (count ≤ i + j)
-    × Merged (nameIn names) (run places low a) (run places middle b) merged i j count
+    × Merged (nameOf (nameIn names)) (run words low a) (run words middle b) merged i j count
 
 abbrev μ-loop : tie.MeasureT-loop
-μ-loop names places merged₀ low a middle b i₀ j₀ count₀ merged i j count = (a + b) - (i + j)
+μ-loop names words merged₀ low a middle b i₀ j₀ count₀ merged i j count = (a + b) - (i + j)
 
 loop-holds : tie.Need-loop-holds Inv-loop μ-loop
 loop-holds c = (refl, omega arith, omega arith, omega arith, merged-none _ _ _ _)
@@ -24,8 +25,8 @@ loop-holds c = (refl, omega arith, omega arith, omega arith, merged-none _ _ _ _
 loop-less : tie.Need-loop-less Inv-loop μ-loop
 loop-less c =
     let s = c .before .before .before .before .before .before in
-    let la = length-run (s .args .places .now) (s .args .low) (s .args .a) (s .pre .0) in
-    let lb = length-run (s .args .places .now) (s .args .middle) (s .args .b) (s .pre .1) in
+    let la = length-run (s .args .words .now) (s .args .low) (s .args .a) (s .pre .0) in
+    let lb = length-run (s .args .words .now) (s .args .middle) (s .args .b) (s .pre .1) in
     omega (arith, c .pick .ensures .3, c .pick .ensures .4, c .pick .ensures .5)
 
 loop-again : tie.Need-loop-again Inv-loop μ-loop
@@ -33,9 +34,9 @@ loop-again c =
     let s = c .before .before .before .before .before .before in
     let v = c .before .before .loop in
     let p = c .pick .ensures in
-    let la = length-run (s .args .places .now) (s .args .low) (s .args .a) (s .pre .0) in
-    let lb = length-run (s .args .places .now) (s .args .middle) (s .args .b) (s .pre .1) in (
-      length-set (v .merged) (v .count) (c .pick .result .place) ∙ v .inv .0,
+    let la = length-run (s .args .words .now) (s .args .low) (s .args .a) (s .pre .0) in
+    let lb = length-run (s .args .words .now) (s .args .middle) (s .args .b) (s .pre .1) in (
+      length-set (v .merged) (v .count) (c .pick .result .word) ∙ v .inv .0,
       omega (arith, p .4),
       omega (arith, p .5),
       omega (arith, p .3),
@@ -49,8 +50,8 @@ returns : tie.Need-returns Inv-loop μ-loop
 returns c =
     let s = c .before .before .before .before .before in
     let v = c .before .loop in
-    let la = length-run (s .args .places .now) (s .args .low) (s .args .a) (s .pre .0) in
-    let lb = length-run (s .args .places .now) (s .args .middle) (s .args .b) (s .pre .1) in
+    let la = length-run (s .args .words .now) (s .args .low) (s .args .a) (s .pre .0) in
+    let lb = length-run (s .args .words .now) (s .args .middle) (s .args .b) (s .pre .1) in
     (merged-all _ _ _ _ _ _ _ (v .inv .4) (omega arith), omega arith)
 
 pub merge-spec : {M : Type 1} → statement M

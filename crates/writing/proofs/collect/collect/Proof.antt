@@ -98,7 +98,6 @@ collect-spec =
     loop-holds
     (λ c. search needs)
     (λ c. search needs)
-    (λ c. search needs)
     slice-write-places
     (λ c. search needs)
     note-member-requires

@@ -30,7 +30,7 @@ use Rattle.writing.proofs.skip.value_end.Reads as value-end
 use Rattle.writing.proofs.skip.value_end.Kinds as end-kinds
 use Rattle.writing.proofs.skip.+member_end+skip_array+skip_object+skip_value+value_end.Lts-value_end as end-lts
 use Rattle.writing.proofs.skip.scalar_end.Reads as scalar-end-reads
-use Rattle.member_order.proofs.sort.wide.Reads as wide-reads
+use Rattle.writing.proofs.skip.wide.Reads as wide-reads
 use Rattle.json.proofs.bytes.byte.Reads as byte-reads
 use Rattle.json.proofs.bytes.skip_ws.Reads as skip-ws-reads
 use Rattle.json.proofs.strings.skip_string.Reads as skip-string-reads

@@ -3,7 +3,7 @@ use mathlib.Core.Path.{_∙_}
 use Prim.Native.Nat.{ℕ, _+_, _-_}
 use native.Mathlib.Omega.{arith}
 use lib.ListN.{length}
-use Rattle.writing.proofs.ObjectLaws.{skippable, few-members, still-kept, in-order}
+use Rattle.writing.proofs.ObjectLaws.{skippable, few-members, places-short, still-kept, in-order}
 use Rattle.writing.proofs.ObjectLaws.{MembersDone, members-first, member-writable, members-more, members-last}
 use Rattle.writing.proofs.RankLaws.{rank-member}
 use Rattle.writing.proofs.write.write_object.Reads as reads
@@ -30,7 +30,7 @@ sort-requires t c κs =
     let a = g .collect .ensures in
     let e = g .collect .kept .1 .1 .1 .0 in
     let f = few-members w a e in
-    (f .0, omega (arith, f .1, w .room-merged))
+    (f .0, omega (arith, f .1, w .room-merged), places-short w a e)
 
 pub put-header-requires : (t : ℕ) → lts.Need-put-header-requires (object-calls t) (object-at t) reads.Post Inv-loop μ-loop
 put-header-requires t c κs =
