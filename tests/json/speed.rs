@@ -41,13 +41,6 @@ fn nanoseconds(call: fn(&[u8]) -> (u64, u64), message: &[u8], rounds: usize) -> 
     least
 }
 
-// How many times as long as another message one takes: both in turns, so that both meet the same machine; the middle one of many rounds.
-fn times(message: &[u8], plain: &[u8], rounds: usize) -> f64 {
-    let mut ratios: Vec<f64> = (0..rounds).map(|_| nanoseconds(proved, message, 2) / nanoseconds(proved, plain, 2)).collect();
-    ratios.sort_by(f64::total_cmp);
-    ratios[rounds / 2]
-}
-
 fn main() {
     let rounds = std::env::args().nth(1).map_or(200, |a| a.parse().expect("a number"));
     println!("| message | bytes | proved, ns | original, ns | original / proved |");
@@ -66,15 +59,22 @@ fn main() {
     println!();
     let mut plain = loads::venue(32_768);
     plain.resize(32_768, b' ');
-    let base = nanoseconds(proved, &plain, rounds);
+    let mut messages = vec![("venue-like, the plain one", plain)];
+    messages.extend(loads::worst());
+    let mut least = vec![(f64::MAX, f64::MAX); messages.len()];
+    // in several passes, so that all meet the same machine
+    for _ in 0..10 {
+        for ((name, message), (here, there)) in messages.iter().zip(&mut least) {
+            assert_eq!(message.len(), 32_768);
+            assert_eq!(proved(message), original(message), "{name}");
+            *here = here.min(nanoseconds(proved, message, rounds / 10));
+            *there = there.min(nanoseconds(original, message, rounds / 10));
+        }
+    }
     println!("| 32,768 bytes | proved, µs | times the plain one | original, µs |");
     println!("|---|---|---|---|");
-    println!("| venue-like, the plain one | {:.1} | 1.00 | {:.1} |", base / 1000.0, nanoseconds(original, &plain, rounds) / 1000.0);
-    for (name, message) in loads::worst() {
-        assert_eq!(message.len(), 32_768);
-        assert_eq!(proved(&message), original(&message), "{name}");
-        let here = nanoseconds(proved, &message, rounds / 4);
-        let there = nanoseconds(original, &message, rounds / 4);
-        println!("| {name} | {:.1} | {:.2} | {:.1} |", here / 1000.0, times(&message, &plain, rounds / 4), there / 1000.0);
+    let base = least[0].0;
+    for ((name, _), (here, there)) in messages.iter().zip(least) {
+        println!("| {name} | {:.1} | {:.2} | {:.1} |", here / 1000.0, here / base, there / 1000.0);
     }
 }
