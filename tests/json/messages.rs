@@ -66,8 +66,9 @@ impl Maker {
         }
     }
 
-    fn string(&mut self) {
+    fn string(&mut self, front: usize) {
         self.out.push(b'"');
+        self.out.extend(std::iter::repeat_n(b'a', front));
         let long = self.r.percent(5);
         let n = if long { self.r.below(200) } else { self.r.below(8) };
         for _ in 0..n {
@@ -103,7 +104,7 @@ impl Maker {
                 self.out.extend(word);
             }
             1 => self.number(),
-            2 | 3 => self.string(),
+            2 | 3 => self.string(0),
             4 => self.many(b'[', b']', depth, false),
             _ => self.many(b'{', b'}', depth, true),
         }
@@ -113,13 +114,15 @@ impl Maker {
         self.out.push(open);
         self.ws();
         let n = if self.r.percent(3) { self.r.below(60) } else { self.r.below(6) };
+        // names are compared by their first six bytes, and then by what follows
+        let front = if self.r.percent(30) { self.r.between(4, 8) as usize } else { 0 };
         for i in 0..n {
             if i > 0 {
                 self.out.push(b',');
                 self.ws();
             }
             if named {
-                self.string();
+                self.string(front);
                 self.ws();
                 self.out.push(b':');
                 self.ws();
