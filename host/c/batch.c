@@ -14,14 +14,19 @@ static merge_report reports[LINES];
 static merge_answer answers[4];
 
 static const merge_call calls[] = {
-    {.number = MERGE_CALL_SUBSCRIBE, .conn = 1},
-    {.number = MERGE_CALL_SNAPSHOT, .conn = 1, .token = 0, .message = 10},
+    {.number = MERGE_CALL_SUBSCRIBE, .conn = 1, .token_or_limit = HELD},
+    {.number = MERGE_CALL_SNAPSHOT, .conn = 1, .token_or_limit = 0, .message = 10},
     {.number = MERGE_CALL_BOOK_EVENT, .conn = 1, .key = {7, 7}, .message = 11},
     {.number = MERGE_CALL_PRINT, .conn = 1, .key = {9, 9}, .message = 12},
-    {.number = MERGE_CALL_SUBSCRIBE, .conn = 2},
+    {.number = MERGE_CALL_SUBSCRIBE, .conn = 2, .token_or_limit = HELD},
     {.number = MERGE_CALL_TICK, .time = 10000},
     {.number = MERGE_CALL_DROP, .conn = 1, .time = 10000},
     {.number = MERGE_CALL_DROP, .conn = 2, .time = 10000},
+    /* no line holds more than HELD; one that holds a single message fails at the second */
+    {.number = MERGE_CALL_SUBSCRIBE, .conn = 3, .token_or_limit = HELD + 1, .time = 10000},
+    {.number = MERGE_CALL_SUBSCRIBE, .conn = 3, .token_or_limit = 1, .time = 10000},
+    {.number = MERGE_CALL_BOOK_EVENT, .conn = 3, .key = {8, 8}, .message = 13, .time = 10000},
+    {.number = MERGE_CALL_BOOK_EVENT, .conn = 3, .key = {8, 9}, .message = 14, .time = 10000},
 };
 enum { CALLS = sizeof calls / sizeof *calls };
 

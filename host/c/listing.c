@@ -20,7 +20,7 @@ int main(void) {
         fprintf(stderr, "setup: refused %" PRIu64 "\n", count);
         return 1;
     }
-    code = merge_subscribe(store, WORDS, 1, 0, &count);
+    code = merge_subscribe(store, WORDS, 1, HELD, 0, &count);
     print_answer(code, count, records);
     code = merge_snapshot(store, WORDS, out, ROOM, 1, 0, 10, 0, &count);
     print_answer(code, count, records);

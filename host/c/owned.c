@@ -21,7 +21,7 @@ int main(void) {
         fprintf(stderr, "setup: refused %" PRIu64 "\n", count);
         return 1;
     }
-    code = owned_subscribe(store, WORDS, 1, 0, &count);
+    code = owned_subscribe(store, WORDS, 1, HELD, 0, &count);
     print_answer(code, count, records);
     code = owned_snapshot(store, WORDS, out, ROOM, 1, 0, 10, 0, &count);
     print_answer(code, count, records);

@@ -1,7 +1,7 @@
-/* Lists that are too short, and words that are no call: the program ends with the reason.
+/* Lists that are too short, words that are no call, and a line's limit that is none: the program ends with the reason.
  *
  *     cc -I host/include host/c/short.c target/staticlib/libexports.a -o short
- *     ./short single; ./short records; ./short reports; ./short answers; ./short call
+ *     ./short single; ./short records; ./short reports; ./short answers; ./short call; ./short limit
  */
 #include "pollendrift.h"
 
@@ -30,6 +30,22 @@ static int single(size_t room) {
     else
         fprintf(stderr, "snapshot: refused %" PRIu64 "\n", count);
     return 1;
+}
+
+/* Two lines of these limits. */
+static int subscribe(uint64_t first, uint64_t second) {
+    const uint64_t limits[] = {first, second};
+    for (uint64_t conn = 1; conn <= 2; conn++) {
+        uint64_t count, limit = limits[conn - 1];
+        if (merge_subscribe(store, WORDS(store), conn, limit, 0, &count) == MERGE_DONE)
+            continue;
+        if (count == MERGE_LINE_LIMIT)
+            fprintf(stderr, "subscribe %" PRIu64 ": refused 18, a limit of %" PRIu64 " and 1 to %d are taken\n", conn, limit, HELD);
+        else
+            fprintf(stderr, "subscribe %" PRIu64 ": refused %" PRIu64 "\n", conn, count);
+        return 1;
+    }
+    return 0;
 }
 
 /* A list of one call, with so many words for records, reports and answers. */
@@ -77,6 +93,8 @@ int main(int argc, char **argv) {
         return batch(&snapshot, WORDS(out), WORDS(reports), 0);
     if (strcmp(what, "call") == 0)
         return batch(&none, WORDS(out), WORDS(reports), WORDS(answers));
-    fprintf(stderr, "short single|records|reports|answers|call\n");
+    if (strcmp(what, "limit") == 0)
+        return subscribe(6, HELD + 1);
+    fprintf(stderr, "short single|records|reports|answers|call|limit\n");
     return 2;
 }

@@ -85,11 +85,15 @@ enum {
     /* A snapshot's token is above 1: a fault of the host. Call again with the right token. */
     MERGE_INDEX = 10,
     /* Not one view answer, 0 or 1, for each line: a fault of the host. Call again with right answers. */
-    MERGE_ANSWERS = 11
+    MERGE_ANSWERS = 11,
+    /* The limit of a subscription is zero or above H (tested before 4): a fault of the host. Call again with a limit of 1 to H, before the
+     * connection's first message. If messages came meanwhile, subscribe it again; where it had a line before, which took them, merge_reset
+     * and subscribe all connections again. (12 to 17 are of the other headers.) */
+    MERGE_LINE_LIMIT = 18
 };
 
 /* The version of a store's layout. Setup writes it to word 12; a store of another version is refused with 1. */
-#define MERGE_LAYOUT 3
+#define MERGE_LAYOUT 4
 
 /* Words that a store needs, for L lines (1 to 16), held limit H (1 to 5,000), event limit G (1 to 1,048,576), C print keys and D
  * count pairs (1 to 65,536 each). A store may be longer. */
@@ -134,7 +138,7 @@ enum {
 typedef struct {
     uint64_t number; /* MERGE_CALL_.. */
     uint64_t conn;
-    uint64_t token;
+    uint64_t token_or_limit; /* of a snapshot: the token; of a subscription: the line's limit */
     uint64_t key[2];
     uint64_t message;
     uint64_t time;
@@ -152,8 +156,11 @@ typedef struct {
 uint64_t merge_setup(uint64_t *store, size_t words, uint64_t lines, uint64_t held, uint64_t events, uint64_t keys,
                      uint64_t pairs, uint64_t start, uint64_t *count);
 
-/* The connection subscribed: what it held goes, and so do its counts of prints delivered before. */
-uint64_t merge_subscribe(uint64_t *store, size_t words, uint64_t conn, uint64_t time, uint64_t *count);
+/* The connection subscribed: what it held goes, and so do its counts of prints delivered before. `limit`, 1 to H, is its line's until the
+ * next subscription: while it is not in line, and holds so many items or prints, a book event or a print of a key that it does not hold
+ * fails it (MERGE_FAILED). Snapshots are held above the limit too. A workstation passes H, a phone less, but 6 at least: to line up by its
+ * events a line holds two snapshots and four events. */
+uint64_t merge_subscribe(uint64_t *store, size_t words, uint64_t conn, uint64_t limit, uint64_t time, uint64_t *count);
 
 /* The connection's snapshot of token 0 or 1. A message is the host's own number for it. */
 uint64_t merge_snapshot(uint64_t *store, size_t words, uint64_t *out, size_t room, uint64_t conn, uint64_t token,
@@ -194,8 +201,8 @@ uint64_t merge_tick(uint64_t *store, size_t words, uint64_t *out, size_t room, u
  * want of room. MERGE_NO_ROOM with *done 0: the lists are too short.
  *
  * A call that is refused with any other number than 3 is answered, and the next is done, of the same connection too. If 5 or 6
- * refused a snapshot or a book event and a later call of that connection stands in the same list, the gap may be hidden already:
- * merge_reset, and subscribe all connections again. If none does, do as for a single call. */
+ * refused a snapshot or a book event, or 18 a subscription, and a later call of that connection stands in the same list, the gap may be
+ * hidden already: merge_reset, and subscribe all connections again. If none does, do as for a single call. */
 uint64_t merge_batch(uint64_t *store, size_t words, uint64_t *out, size_t room, uint64_t *reports, size_t report_room,
                      uint64_t *answers, size_t answer_room, const uint64_t *calls, size_t call_words, uint64_t *done,
                      uint64_t *count, uint64_t *reported);

@@ -25,7 +25,8 @@
 extern "C" {
 #endif
 
-uint64_t owned_subscribe(uint64_t *store, size_t words, uint64_t conn, uint64_t time, uint64_t *count);
+/* `limit`, 1 to H: the line's own, as in merge_subscribe. */
+uint64_t owned_subscribe(uint64_t *store, size_t words, uint64_t conn, uint64_t limit, uint64_t time, uint64_t *count);
 
 uint64_t owned_snapshot(uint64_t *store, size_t words, uint64_t *out, size_t room, uint64_t conn, uint64_t token,
                         uint64_t message, uint64_t time, uint64_t *count);

@@ -20,6 +20,7 @@ extern "C" {
         store: *mut u64,
         words: usize,
         conn: u64,
+        limit: u64,
         time: u64,
         count: &mut u64,
     ) -> u64;

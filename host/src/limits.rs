@@ -11,7 +11,8 @@ pub(crate) const REPORT: usize = 3;
 /// - `events` at least R × (10 + T), since the log keeps ten seconds and is pruned at ticks alone, and what the lines hold beside it:
 ///   R × (10 + T) for each line that may wait or be pending at a time, at most `held` + 8. Else [`Refusal::Events`].
 /// - `keys` at least the different prints of 30 + T seconds, `pairs` N times as many. Else [`Refusal::Prints`].
-/// - `held` at least R × (10 + T), or a line that lines up late fails before its ten seconds are over.
+/// - `held` at least R × (10 + T), or a line that lines up late fails before its ten seconds are over. A line's own limit
+///   ([`subscribe_with_limit`](crate::MarketMerge::subscribe_with_limit)) may be less.
 /// - `lines` at least N and as many as may be replaced at a time: a failed line is one until it is dropped.
 ///
 /// [`Refusal::Events`]: crate::Refusal::Events
@@ -32,7 +33,7 @@ pub(crate) const REPORT: usize = 3;
 pub struct Limits {
     /// L: lines, one for each subscribed connection, failed ones included; 1 to 16.
     pub lines: u64,
-    /// H: items that a line holds before a book event fails it, and prints that it holds; 1 to 5,000.
+    /// H: the largest limit of a line, which is how many items it holds before a book event fails it, and how many prints; 1 to 5,000.
     pub held: u64,
     /// G: log entries and held items of all lines together; 1 to 1,048,576.
     pub events: u64,

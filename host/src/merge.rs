@@ -163,18 +163,49 @@ impl<M, A> MarketMerge<M, A> {
         self.kept.len()
     }
 
-    /// The log's numbers, how full the tables are, and each line's kind and next number: for tests and support.
+    /// The log's numbers, how full the tables are, and each line's kind, limit and next number: for tests and support.
     pub fn reading(&self) -> Reading {
         self.store.reading()
     }
 
     /// The connection subscribed the market; its snapshots are due. What it held before is let go, and its counts of prints begin anew.
+    /// Its line's limit is that of the market, [`Limits::held`].
     ///
     /// # Errors
     /// [`Refusal::Lines`] for a new connection where all lines are taken.
     pub fn subscribe(&mut self, conn: ConnId, now: Instant) -> Result<(), Refusal> {
+        self.subscribe_with_limit(conn, self.store.held_limit(), now)
+    }
+
+    /// As [`subscribe`](Self::subscribe), for a host that cannot keep [`Limits::held`] messages of a connection, such as one on a phone.
+    /// `limit`, 1 to `held`, is this line's alone, and lasts until the connection's next subscription.
+    ///
+    /// A connection that is not in line holds up to `limit` items (snapshots and book events) and up to `limit` different prints. A
+    /// further book event, or a print of a further key, is answered [`Step::Failed`] and not held: subscribe the connection again. A line
+    /// that a book event failed keeps its prints until then. Snapshots are held above the limit too. To line up by its events a connection
+    /// holds two snapshots and [`ALIGN_RUN`](crate::ALIGN_RUN) events, so the limit should be 6 at least.
+    ///
+    /// ```
+    /// use pollendrift::{EventKey, MarketMerge, Step};
+    /// let (mut merge, now) = (MarketMerge::default(), std::time::Instant::now());
+    /// merge.subscribe_with_limit(1, 6, now)?;
+    /// for i in 0..6 {
+    ///     assert_eq!(merge.book_event(1, EventKey::new(i, i), &"a change", now), Step::Held);
+    /// }
+    /// assert_eq!(merge.book_event(1, EventKey::new(6, 6), &"a change", now), Step::Failed);
+    /// # Ok::<(), pollendrift::Refusal>(())
+    /// ```
+    ///
+    /// # Errors
+    /// [`Refusal::LineLimit`] where the limit is zero or above `held`; [`Refusal::Lines`] as for `subscribe`.
+    pub fn subscribe_with_limit(
+        &mut self,
+        conn: ConnId,
+        limit: u64,
+        now: Instant,
+    ) -> Result<(), Refusal> {
         self.begin();
-        let told = self.store.subscribe(conn, self.time(now));
+        let told = self.store.subscribe(conn, limit, self.time(now));
         let done = if told.code == store::REFUSED {
             Err(Refusal::of(told.count))
         } else {

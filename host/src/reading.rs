@@ -27,7 +27,9 @@ pub struct LineReading {
     pub conn: ConnId,
     /// Waiting, pending, in line or failed.
     pub kind: Kind,
-    /// Snapshots and book events that it holds.
+    /// The limit of its subscription: holding so many items, or prints, it fails at a book event, or a print, that it would hold too.
+    pub limit: u64,
+    /// Snapshots and book events that it holds. Snapshots are held above the limit too.
     pub items: usize,
     /// Prints that it holds.
     pub prints: usize,

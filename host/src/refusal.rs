@@ -5,8 +5,9 @@
 /// [`promote`] if that answers `Kept`; at the next tick a new subscription at the venue; then [`subscribe`]. [`subscribe`] alone is not
 /// enough: it leaves the log as it is, also where the connection was the only one in line.
 ///
-/// Document 01 numbers the refusals; [`Refusal::number`] is that number. Its numbers 1 (unsound store), 3 (short output list) and
-/// 11 (view answers) cannot come up here: the store and the lists belong to [`MarketMerge`](crate::MarketMerge).
+/// Document 01 numbers the refusals, and request 5 of document 02 the last; [`Refusal::number`] is that number. The numbers 1 (unsound
+/// store), 3 (short output list) and 11 (view answers) cannot come up here: the store and the lists belong to
+/// [`MarketMerge`](crate::MarketMerge). 12 to 17 are [`LevelRefusal`](crate::LevelRefusal) and [`JsonRefusal`](crate::JsonRefusal).
 ///
 /// [`drop_conn`]: crate::MarketMerge::drop_conn
 /// [`promote`]: crate::MarketMerge::promote
@@ -35,10 +36,15 @@ pub enum Refusal {
     Numbers = 9,
     /// 10: a snapshot's index is above 1. The message is of none of the market's two tokens: a fault of the host, and nothing is lost.
     Index = 10,
+    /// 18: the line's limit is zero or above [`Limits::held`](crate::Limits::held), see
+    /// [`subscribe_with_limit`](crate::MarketMerge::subscribe_with_limit). A fault of the host: call again with a limit in range, before
+    /// the connection's first message. If messages came meanwhile, subscribe it again; where it had a line before, which took them,
+    /// [`reset`](crate::MarketMerge::reset) and subscribe all connections again.
+    LineLimit = 18,
 }
 
 impl Refusal {
-    /// The number of this refusal in document 01.
+    /// The number of this refusal in documents 01 and 02.
     pub const fn number(self) -> u64 {
         self as u64
     }
@@ -47,10 +53,12 @@ impl Refusal {
     #[cold]
     pub(crate) fn of(number: u64) -> Self {
         use Refusal::*;
-        [Limits, Lines, Events, Items, Prints, Copies, Numbers, Index]
-            .into_iter()
-            .find(|refusal| refusal.number() == number)
-            .unwrap_or_else(|| unreachable!("refusal {number} of a sound store and its lists"))
+        [
+            Limits, Lines, Events, Items, Prints, Copies, Numbers, Index, LineLimit,
+        ]
+        .into_iter()
+        .find(|refusal| refusal.number() == number)
+        .unwrap_or_else(|| unreachable!("refusal {number} of a sound store and its lists"))
     }
 }
 
@@ -65,6 +73,7 @@ impl std::fmt::Display for Refusal {
             Refusal::Copies => "the connection delivered this print 2^32 - 1 times",
             Refusal::Numbers => "the end and the held items are at 2^64 - 1",
             Refusal::Index => "the snapshot's index is above 1",
+            Refusal::LineLimit => "the line's limit is zero or above the held limit",
         };
         write!(f, "refused {}: {meaning}", self.number())
     }

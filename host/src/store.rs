@@ -106,9 +106,9 @@ impl Store {
         Told { code, count }
     }
 
-    pub fn subscribe(&mut self, conn: u64, t: u64) -> Told {
+    pub fn subscribe(&mut self, conn: u64, limit: u64, t: u64) -> Told {
         // SAFETY: `told` lends a sound store and a count apart from it.
-        self.told(|s, n, _, _, count| unsafe { ffi::owned_subscribe(s, n, conn, t, count) })
+        self.told(|s, n, _, _, count| unsafe { ffi::owned_subscribe(s, n, conn, limit, t, count) })
     }
 
     #[inline]

@@ -101,7 +101,7 @@ pub enum Step<A> {
     ///
     /// [`MarketMerge::reset`]: crate::MarketMerge::reset
     Diverged,
-    /// The connection just failed: it held too much, or was behind the log. It has to subscribe again.
+    /// The connection just failed: it held as much as its line's limit, or was behind the log. It has to subscribe again.
     Failed,
     /// The limits refuse the message: nothing changed, and **the message was not taken**. The original has no limits.
     ///

@@ -146,6 +146,10 @@ fn short() {
             "call",
             "batch: 12 with 0 done, 9 is the number of no call\n",
         ),
+        (
+            "limit",
+            "subscribe 2: refused 18, a limit of 33 and 1 to 32 are taken\n",
+        ),
     ];
     for (what, reason) in reasons {
         assert_eq!(

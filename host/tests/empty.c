@@ -1,5 +1,5 @@
-/* What the headers say of lists of length 0, of the counts, of the layout and of the structs. Ends with 0, or names the first line
- * that does not hold. */
+/* What the headers say of lists of length 0, of the counts, of a line's limit, of the layout and of the structs. Ends with 0, or names
+ * the first line that does not hold. */
 #include "pollendrift_owned.h"
 
 #include <stdio.h>
@@ -45,7 +45,7 @@ static void no_store(void) {
     uint64_t list[MERGE_VIEW_WORDS(HELD)];
     REFUSED(merge_setup(NULL, 0, LINES, HELD, EVENTS, KEYS, PAIRS, 0, &count), 1);
     REFUSED(merge_setup(NULL, 0, 0, HELD, EVENTS, KEYS, PAIRS, 0, &count), 2);
-    REFUSED(merge_subscribe(NULL, 0, 1, 0, &count), 1);
+    REFUSED(merge_subscribe(NULL, 0, 1, 0, 0, &count), 1);
     REFUSED(merge_snapshot(NULL, 0, out, ROOM, 1, 0, 10, 0, &count), 1);
     REFUSED(merge_book_event(NULL, 0, out, ROOM, 1, 7, 7, 11, 0, &count), 1);
     REFUSED(merge_print(NULL, 0, out, ROOM, 1, 9, 9, 12, 0, &count), 1);
@@ -63,7 +63,7 @@ static void no_store(void) {
 
 /* Output lists of no words. */
 static void no_lists(void) {
-    const merge_call subscribe = {.number = MERGE_CALL_SUBSCRIBE, .conn = 1};
+    const merge_call subscribe = {.number = MERGE_CALL_SUBSCRIBE, .conn = 1, .token_or_limit = HELD};
     const merge_call print = {.number = MERGE_CALL_PRINT, .conn = 1};
     const merge_call tick = {.number = MERGE_CALL_TICK};
     const uint64_t *list;
@@ -98,6 +98,45 @@ static void no_lists(void) {
     REFUSED(merge_tick(store, WORDS, out, ROOM, reports, 6, NULL, 0, 0, &count, &reported), 11);
 }
 
+/* An event of a connection, the n-th. */
+static uint64_t event(uint64_t conn, uint64_t n) {
+    return merge_book_event(store, WORDS, out, ROOM, conn, 7, n, n, 0, &count);
+}
+
+/* Limits of lines: a short one, and those that are refused, before 4 where no line is free. */
+static void line_limits(void) {
+    merge_call subscribe = {.number = MERGE_CALL_SUBSCRIBE, .conn = 3, .token_or_limit = HELD + 1};
+    const uint64_t *list = (const uint64_t *)&subscribe;
+    uint64_t *area = store + WORDS - LINES * (7 * HELD + 64); /* of the first line */
+    ANSWERS(merge_setup(store, WORDS, LINES, HELD, EVENTS, KEYS, PAIRS, 0, &count), MERGE_DONE, 0);
+    ANSWERS(merge_subscribe(store, WORDS, 1, 2, 0, &count), MERGE_DONE, 0);
+    ANSWERS(owned_subscribe(store, WORDS, 2, HELD, 0, &count), MERGE_DONE, 0);
+    is(area[10] == 2 && area[7 * HELD + 64 + 10] == HELD);
+    memcpy(before, store, sizeof store);
+    REFUSED(merge_subscribe(store, WORDS, 3, 0, 0, &count), MERGE_LINE_LIMIT);
+    REFUSED(merge_subscribe(store, WORDS, 1, HELD + 1, 0, &count), MERGE_LINE_LIMIT);
+    REFUSED(merge_subscribe(store, WORDS, 3, 1, 0, &count), MERGE_LINES);
+    REFUSED(owned_subscribe(store, WORDS, 1, 0, 0, &count), MERGE_LINE_LIMIT);
+    REFUSED(owned_subscribe(store, WORDS, 3, UINT64_MAX, 0, &count), MERGE_LINE_LIMIT);
+    BATCH(merge_batch(store, WORDS, NULL, 0, NULL, 0, answers, 3, list, 8, &done, &count, &reported), MERGE_DONE, 1);
+    is(answers[0] == MERGE_REFUSED && answers[1] == MERGE_LINE_LIMIT && answers[2] == 0);
+    subscribe.token_or_limit = 1;
+    BATCH(owned_batch(store, WORDS, NULL, 0, NULL, 0, answers, 3, list, 8, &done, &count, &reported), MERGE_DONE, 1);
+    is(answers[0] == MERGE_REFUSED && answers[1] == MERGE_LINES && answers[2] == 0);
+    is(memcmp(before, store, sizeof store) == 0);
+    for (uint64_t n = 1; n <= HELD; n++) {
+        ANSWERS(event(1, n), n <= 2 ? MERGE_HELD : MERGE_FAILED, 0);
+        ANSWERS(event(2, n), MERGE_HELD, 0);
+    }
+    subscribe.conn = 1;
+    BATCH(merge_batch(store, WORDS, NULL, 0, NULL, 0, answers, 3, list, 8, &done, &count, &reported), MERGE_DONE, 1);
+    is(answers[0] == MERGE_DONE && area[10] == 1);
+    area[10] = 0;
+    REFUSED(merge_servable(store, WORDS, &count), 1);
+    area[10] = HELD + 1;
+    REFUSED(merge_servable(store, WORDS, &count), 1);
+}
+
 /* A store of another layout. */
 static void layout(void) {
     ANSWERS(merge_setup(store, WORDS, LINES, HELD, EVENTS, KEYS, PAIRS, 0, &count), MERGE_DONE, 0);
@@ -123,6 +162,7 @@ int main(void) {
     no_store();
     no_lists();
     no_bytes();
+    line_limits();
     layout();
     return failed;
 }

@@ -33,6 +33,7 @@ fn lines_and_log() {
     let line = |conn, kind, items, prints| LineReading {
         conn,
         kind,
+        limit: reading.limits.held,
         items,
         prints,
     };

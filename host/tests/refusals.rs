@@ -1,4 +1,4 @@
-//! Each refusal that a host can meet, with document 01's number. Number 8 takes 2^32 deliveries and is not provoked.
+//! Each refusal that a host can meet, with its number. Number 8 takes 2^32 deliveries and is not provoked.
 use pollendrift::{Applied, EventKey, Limits, MarketMerge, Refusal, Step};
 use std::time::Instant;
 
@@ -35,9 +35,10 @@ fn refused(m: &MarketMerge<String>, step: Step<Applied<String>>, refusal: Refusa
 #[test]
 fn numbers_and_meaning() {
     use Refusal::*;
-    let numbers =
-        [Limits, Lines, Events, Items, Prints, Copies, Numbers, Index].map(Refusal::number);
-    assert_eq!(numbers, [2, 4, 5, 6, 7, 8, 9, 10]);
+    let all = [
+        Limits, Lines, Events, Items, Prints, Copies, Numbers, Index, LineLimit,
+    ];
+    assert_eq!(all.map(Refusal::number), [2, 4, 5, 6, 7, 8, 9, 10, 18]);
     let error: Box<dyn std::error::Error> = Box::new(Refusal::Lines);
     assert_eq!(
         error.to_string(),
@@ -85,6 +86,17 @@ fn lines_taken() {
     assert_eq!(m.subscribe(2, now), Ok(()));
     m.drop_conn(2, now);
     assert_eq!(m.subscribe(3, now), Ok(()));
+}
+
+#[test]
+fn line_limit_outside_range() {
+    let now = Instant::now();
+    let mut m = market(SMALL, 0, now);
+    for limit in [0, SMALL.held + 1, u64::MAX] {
+        let done = m.subscribe_with_limit(2, limit, now);
+        assert_eq!(done, Err(Refusal::LineLimit), "{limit}");
+    }
+    assert_eq!(m.subscribe_with_limit(2, 1, now), Ok(()));
 }
 
 #[test]

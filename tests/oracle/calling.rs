@@ -1,7 +1,7 @@
 // One random call after another, chosen by the market before it.
 use crate::markets::{self, Made};
 use crate::random::Random;
-use crate::reading::{Item, Line, Market};
+use crate::reading::{Conn, Item, Line, Market};
 use crate::words::{Call, Key, Limits, MOST};
 use crate::writing;
 use std::collections::BTreeMap;
@@ -94,9 +94,9 @@ impl<'a> Maker<'a> {
         self.now
     }
 
-    // A connection, mostly one whose line is as wanted.
-    fn conn(&mut self, m: &Market, wanted: impl Fn(Option<&Line>) -> bool) -> u64 {
-        let fit: Vec<u64> = self.conns.iter().copied().filter(|c| wanted(m.line(*c))).collect();
+    // A connection, mostly one that is as wanted.
+    fn conn(&mut self, m: &Market, wanted: impl Fn(Option<&Conn>) -> bool) -> u64 {
+        let fit: Vec<u64> = self.conns.iter().copied().filter(|conn| wanted(m.lines.get(conn))).collect();
         if fit.is_empty() || self.r.percent(8) {
             return self.r.of(&self.conns);
         }
@@ -108,13 +108,22 @@ impl<'a> Maker<'a> {
         self.made
     }
 
+    // A line's limit, now and then one that is refused.
+    pub fn limit(&mut self) -> u64 {
+        if self.r.percent(6) {
+            return self.r.of(&[0, self.x.h + 1, u64::MAX]);
+        }
+        markets::limit(self.r, self.x)
+    }
+
     fn subscribe(&mut self, m: &Market) -> Call {
-        Call::Subscribe { conn: self.conn(m, |l| matches!(l, None | Some(Line::Failed))) }
+        let conn = self.conn(m, |c| c.is_none_or(|c| c.line == Line::Failed));
+        Call::Subscribe { conn, limit: self.limit() }
     }
 
     // Mostly a token that the line has not.
     fn snapshot(&mut self, m: &Market) -> Call {
-        let conn = self.conn(m, |l| l.is_some_and(|l| l.due() || matches!(l, Line::Waiting { .. })));
+        let conn = self.conn(m, |c| c.is_some_and(|c| c.line.due() || matches!(c.line, Line::Waiting { .. })));
         let lacks = |i: u64| match m.line(conn) {
             Some(Line::Waiting { items, .. }) => !items.iter().any(|item| matches!(item, Item::Snapshot(j, _) if *j == i)),
             Some(Line::InLine { due, .. }) => due[i as usize],
@@ -141,11 +150,12 @@ impl<'a> Maker<'a> {
 
     fn book(&mut self, m: &Market) -> Call {
         let over = self.r.percent(15);
-        let h = self.x.h as usize;
-        let conn = self.conn(m, |l| match l {
-            None | Some(Line::Failed) => false,
-            Some(Line::InLine { .. }) => true,
-            Some(Line::Waiting { items, .. }) | Some(Line::Pending { items, .. }) => over || items.len() < h,
+        let conn = self.conn(m, |c| {
+            c.is_some_and(|c| match &c.line {
+                Line::Failed => false,
+                Line::InLine { .. } => true,
+                Line::Waiting { items, .. } | Line::Pending { items, .. } => over || (items.len() as u64) < c.limit,
+            })
         });
         let number = match m.line(conn) {
             Some(Line::InLine { next, .. }) => *next,
@@ -167,12 +177,18 @@ impl<'a> Maker<'a> {
 
     fn print(&mut self, m: &Market) -> Call {
         let holding = self.r.percent(50);
-        let conn = self.conn(m, |l| match l {
+        let conn = self.conn(m, |c| match c.map(|c| &c.line) {
             None | Some(Line::Failed) => false,
             Some(Line::InLine { .. }) => !holding,
             _ => holding,
         });
-        Call::Print { conn, key: self.r.of(&self.keys), message: self.message() }
+        let held = |key: Key| m.lines.get(&conn).is_some_and(|c| c.held.iter().any(|(k, _)| *k == key));
+        let mut key = self.r.of(&self.keys);
+        if held(key) {
+            // more often one that is not held
+            key = self.r.of(&self.keys);
+        }
+        Call::Print { conn, key, message: self.message() }
     }
 
     // A snapshot that is missing where somebody is in line.
@@ -201,7 +217,7 @@ impl<'a> Maker<'a> {
             11..=25 => self.snapshot(m),
             26..=33 => self.subscribe(m),
             34..=43 => Call::Tick,
-            44 | 45 => Call::Drop { conn: self.conn(m, |l| l.is_some()) },
+            44 | 45 => Call::Drop { conn: self.conn(m, |c| c.is_some()) },
             46 => Call::Promote,
             47 if self.r.percent(60) => Call::Reset,
             48 | 49 => self.snapshot(m),
@@ -244,12 +260,12 @@ impl<'a> Maker<'a> {
             6..=8 => self.other(),
             _ => self.call(m),
         };
-        (call, self.manner())
+        (call, self.manner(m))
     }
 
-    fn manner(&mut self) -> Manner {
+    fn manner(&mut self, m: &Market) -> Manner {
         let x = self.x;
-        let changes = [
+        let mut changes = vec![
             (0, 17),
             (1, 0),
             (2, u64::MAX),
@@ -263,6 +279,11 @@ impl<'a> Maker<'a> {
             (14, 513),
             (15, x.g),
         ];
+        if !m.lines.is_empty() {
+            // the limit of the first line
+            let at = x.store() - (x.l * (7 * x.h + 64)) as usize + 10;
+            changes.extend([(at, 0), (at, x.h + 1), (at, u64::MAX)]);
+        }
         match self.r.below(10) {
             0 => Manner::Right,
             1 => Manner::Short(self.r.of(&[1, 1, 64, x.store() - 63, x.store()])),

@@ -1,4 +1,5 @@
 // How often each answer, refusal, record, report and change of a line's kind was seen, and which of 01 were not.
+use crate::failing;
 use crate::reading::{Line, Market};
 use crate::words::{Answer, Call, Limits, MOST};
 use std::collections::BTreeMap;
@@ -6,7 +7,7 @@ use std::collections::BTreeMap;
 // Each call's answers and refusals.
 const CALLS: [(&str, &[&str], &[u64]); 13] = [
     ("setup", &["done"], &[1, 2]),
-    ("subscribe", &["done"], &[1, 4]),
+    ("subscribe", &["done"], &[1, 4, 18]),
     ("snapshot", &["apply", "held", "ignored"], &[1, 3, 5, 6, 9, 10]),
     ("book", &["apply", "duplicate", "held", "ignored", "diverged", "failed"], &[1, 3, 5, 9]),
     ("print", &["apply", "duplicate", "held", "ignored", "failed"], &[1, 3, 7, 8]),
@@ -37,6 +38,19 @@ const RING: [&str; 4] = [
     "an event pushed at place 0, behind the last",
     "events forgotten over the last place",
     "a line put in line while the log is in two pieces",
+];
+// What lines' limits do (request 5).
+const LIMITS: [&str; 10] = [
+    "failed by items, limit below H",
+    "failed by items, limit H",
+    "failed by items, more held than the limit",
+    "failed by prints, limit below H",
+    "failed by prints, limit H",
+    "failed by prints, more held than the limit",
+    "a snapshot held above the limit",
+    "another limit by a new subscription",
+    "refused 18, the connection has a line",
+    "refused 18, a new connection with L lines",
 ];
 const LISTS: [&str; 5] = ["L 1", "L 16", "H 1", "H 5000", "from a market made by hand"];
 
@@ -104,6 +118,40 @@ impl Seen {
         }
     }
 
+    // What a call did by the limits of lines, and to them.
+    pub fn limits(&mut self, call: &Call, p: &Answer, before: &Market, after: &Market, x: Limits) {
+        let mut see = |i: usize, yes: bool| {
+            if yes {
+                self.see(("limit", LIMITS[i], "", 0));
+            }
+        };
+        let held = |m: &Market, conn| m.line(conn).map_or(0, |line| line.items().len() as u64);
+        match *call {
+            Call::Subscribe { conn, limit } => {
+                let old = before.lines.get(&conn);
+                see(7, p.refused == 0 && old.is_some_and(|c| c.limit != limit));
+                see(8, p.refused == 18 && old.is_some());
+                see(9, p.refused == 18 && old.is_none() && before.lines.len() as u64 == x.l);
+            }
+            _ if p.refused != 0 => {}
+            Call::Snapshot { conn, .. } => {
+                let stored = held(after, conn) > held(before, conn);
+                see(6, stored && held(after, conn) > after.lines[&conn].limit);
+            }
+            _ => {
+                let items = failing::by_items(before, call).map(|c| (c.limit, c.line.items().len() as u64));
+                let prints = failing::by_prints(before, call).map(|c| (c.limit, c.held.len() as u64));
+                for (first, failed) in [(0, items), (3, prints)] {
+                    if let Some((limit, held)) = failed {
+                        see(first, limit < x.h);
+                        see(first + 1, limit == x.h);
+                        see(first + 2, held > limit);
+                    }
+                }
+            }
+        }
+    }
+
     // How many rows of keys and of pairs stood in order, and how many new ones behind them, before a call and after it.
     pub fn rows(&mut self, call: &Call, before: [(u64, u64); 2], after: [(u64, u64); 2]) {
         for (i, ((old, new), (old_after, new_after))) in before.into_iter().zip(after).enumerate() {
@@ -162,7 +210,7 @@ impl Seen {
                 line(format!("{name}: refused {number}"), self.count((name, "refused", "", *number)));
             }
         }
-        for number in 1..=11 {
+        for number in (1..=11).chain([18]) {
             let all = self.0.iter().filter(|((_, word, _, n), _)| *word == "refused" && *n == number);
             line(format!("all calls: refused {number}"), all.map(|(_, n)| n).sum());
         }
@@ -178,7 +226,15 @@ impl Seen {
     // The same of the tables' rows, of the log's ring and of what lists start from.
     pub fn lists(&self) -> Vec<String> {
         let rows = ROWS.map(|word| ("rows", word)).into_iter();
-        let words = rows.chain(RING.map(|word| ("ring", word))).chain(LISTS.map(|word| ("list", word)));
+        self.others(rows.chain(RING.map(|word| ("ring", word))).chain(LISTS.map(|word| ("list", word))))
+    }
+
+    // The same of lines' limits.
+    pub fn limited(&self) -> Vec<String> {
+        self.others(LIMITS.map(|word| ("limit", word)).into_iter())
+    }
+
+    fn others(&self, words: impl Iterator<Item = (&'static str, &'static str)>) -> Vec<String> {
         let counts: Vec<_> = words.map(|(what, word)| (format!("{what}: {word}"), self.count((what, word, "", 0)))).collect();
         for (text, n) in &counts {
             println!("{n:>12}  {text}");

@@ -69,7 +69,7 @@ impl Places {
         let h = self.x.h;
         let at = self.lines + r.below(w[9].clamp(1, self.x.l)) as usize * self.width;
         let end = w[5].wrapping_add(w[6]);
-        match r.below(14) {
+        match r.below(17) {
             0 | 1 => {
                 let near = if r.percent(50) { at.saturating_sub(self.width) } else { at + self.width };
                 let other = w.get(near).copied().unwrap_or(0);
@@ -79,7 +79,11 @@ impl Places {
             4 | 5 => (at + 2, r.of(&[0, h, h + 7, h + 8, h + 9, w[at + 2].wrapping_add(1), w[at + 2].wrapping_sub(1), u64::MAX])),
             6 | 7 => (at + 6, r.of(&[w[5], w[5].wrapping_sub(1), end, end.wrapping_add(1), end.wrapping_sub(1), u64::MAX, 0])),
             8 | 9 => (at + 9, r.of(&[0, h - 1, h, h + 1, w[at + 9].wrapping_add(1), u64::MAX])),
-            10 | 11 => (at + 32 + 4 * r.below(w[at + 2].clamp(1, h + 8)) as usize, r.of(&[0, 1, 2, 3, 4, u64::MAX])),
+            10..=12 => {
+                let limit = w[at + 10];
+                (at + 10, r.of(&[0, 1, h - 1, h, h + 1, limit.wrapping_add(1), limit.wrapping_sub(1), 1 << 32, u64::MAX]))
+            }
+            13 | 14 => (at + 32 + 4 * r.below(w[at + 2].clamp(1, h + 8)) as usize, r.of(&[0, 1, 2, 3, 4, u64::MAX])),
             _ => {
                 let place = at + r.below(self.width as u64) as usize;
                 (place, edge(r, w[place]))

@@ -5,6 +5,7 @@ mod calling;
 mod coverage;
 mod damage;
 mod exported;
+mod failing;
 mod markets;
 mod random;
 mod reading;
@@ -31,13 +32,16 @@ const SORTS: [&str; 5] =
     ["made by calls", "made by hand", "words changed or another length", "random words", "all but the limits sound"];
 
 // How many calls came to stores of each sort, how many of these were sound, and what was wrong first with the others.
-#[derive(Default)]
 struct Stores {
     sorts: [(u64, u64); SORTS.len()],
     faults: [u64; FAULTS.len()],
 }
 
 impl Stores {
+    fn new() -> Stores {
+        Stores { sorts: [(0, 0); SORTS.len()], faults: [0; FAULTS.len()] }
+    }
+
     fn see(&mut self, sort: usize, fault: Option<usize>) {
         self.sorts[sort].0 += 1;
         match fault {
@@ -141,7 +145,7 @@ fn any(maker: &mut Maker) -> Call {
     let conn = if maker.r.percent(90) { maker.r.of(&maker.conns) } else { maker.r.next() };
     let key = maker.r.of(&maker.keys);
     match maker.r.below(12) {
-        0 => Call::Subscribe { conn },
+        0 => Call::Subscribe { conn, limit: maker.limit() },
         1 => Call::Snapshot { conn, token: maker.r.of(&[0, 0, 1, 1, 2, u64::MAX]), message: 1 },
         2 | 3 => Call::Book { conn, key, message: 2 },
         4 | 5 => Call::Print { conn, key, message: 3 },
@@ -153,7 +157,7 @@ fn any(maker: &mut Maker) -> Call {
     }
 }
 
-// What the answer has to be beyond its refusal: the rules' for a query, and sums that any call keeps.
+// What the answer has to be beyond its refusal: the rules' for a query and for lines' limits, and sums that any call keeps.
 fn check_answer(p: &Answer, call: &Call, before: &Market, after: &Market) -> Result<(), String> {
     let serves = |line: &Line| !matches!(line, Line::Failed | Line::Pending { snapshot: None, .. });
     let yes = match call {
@@ -169,10 +173,33 @@ fn check_answer(p: &Answer, call: &Call, before: &Market, after: &Market) -> Res
     let known = p.records.iter().all(|r| r.kind <= 2 && r.times > 0) && p.reports.iter().all(|r| r.0 <= 2);
     let ends = matches!(call, Call::Setup { .. }) || before.end() as u128 + books.count() as u128 == after.end() as u128;
     let counted = !matches!(call, Call::Tick) || reported == p.records.len() as u64;
-    if yes == (p.word != "no") && numbered && known && ends && counted {
+    let limited = fails(p, call, before, after) && limits_stay(call, before, after);
+    if yes == (p.word != "no") && numbered && known && ends && counted && limited {
         return Ok(());
     }
     Err(format!("{p:?}\n  before: {before:?}\n  after: {after:?}"))
+}
+
+// A book event or a print answers failed exactly where the line's limit, or a next below base, makes it.
+fn fails(p: &Answer, call: &Call, before: &Market, after: &Market) -> bool {
+    let behind = |conn| matches!(before.line(conn), Some(Line::InLine { next, .. }) if *next < before.base);
+    let limited = failing::by_items(before, call).or(failing::by_prints(before, call)).is_some();
+    match *call {
+        Call::Book { conn, .. } | Call::Print { conn, .. } if p.word == "failed" => {
+            let book = matches!(call, Call::Book { .. });
+            (limited || book && behind(conn)) && after.line(conn) == Some(&Line::Failed)
+        }
+        _ => !limited,
+    }
+}
+
+// A line's limit is that of its subscription, if this call is one, and else as before.
+fn limits_stay(call: &Call, before: &Market, after: &Market) -> bool {
+    let limit = |conn: &u64| match call {
+        Call::Subscribe { conn: own, limit } if own == conn => Some(*limit),
+        _ => before.lines.get(conn).map(|c| c.limit),
+    };
+    after.lines.iter().all(|(conn, c)| limit(conn) == Some(c.limit))
 }
 
 // Makes a call and tests all that has to hold. No market: the store is not sound.
@@ -196,6 +223,9 @@ fn check(lent: &mut Lent, market: Option<&Market>, call: &Call, t: u64, seen: &m
         }
         let after = reading(&lent.store)?;
         check_answer(&p, call, market.unwrap_or(&after), &after)?;
+        market.inspect(|before| seen.limits(call, &p, before, &after, x));
+    } else if let Some(before) = market {
+        seen.limits(call, &p, before, before, x);
     }
     Ok(())
 }
@@ -241,7 +271,7 @@ fn main() {
     let args: Vec<u64> = std::env::args().skip(1).map(|a| a.parse().expect("usage: damaged CALLS SEED")).collect();
     let [count, seed] = args[..] else { panic!("usage: damaged CALLS SEED") };
     let begin = Instant::now();
-    let (mut seen, mut stores) = (Seen::new(), Stores::default());
+    let (mut seen, mut stores) = (Seen::new(), Stores::new());
     let (mut i, mut made) = (0, 0);
     while made < count {
         match round(seed, i, &mut seen, &mut stores) {
@@ -254,6 +284,7 @@ fn main() {
         i += 1;
     }
     let mut none = seen.table();
+    none.extend(seen.limited());
     none.extend(stores.table());
     println!("right: seed {seed}, {i} stores, {made} calls, {:.0} s", begin.elapsed().as_secs_f64());
     if made >= ENOUGH && !none.is_empty() {

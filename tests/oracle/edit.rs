@@ -5,6 +5,8 @@ use std::process::exit;
 
 const SUBSCRIBE: &str = "    pub fn subscribe(&mut self, conn: ConnId, now: Instant) {\n";
 const REMOVAL: &str = "        for copies in self.others.values_mut() { copies.delivered.remove(&conn); }\n";
+const LIMITED: &str = "    pub fn subscribe(&mut self, conn: ConnId, limit: usize, now: Instant) {\n";
+const DROP: &str = "    pub fn drop_conn(&mut self, conn: ConnId, now: Instant) -> Lost {\n";
 
 fn fail(why: &str) -> ! {
     eprintln!("edit: {why}");
@@ -49,10 +51,13 @@ fn main() {
         // request 1: subscribe removes the connection's delivered counts
         replace(t, 1, SUBSCRIBE, &format!("{SUBSCRIBE}{REMOVAL}"));
     }
-    // the held limit comes from setup
-    replace(t, 1, "items.len() >= MAX_HELD", "items.len() >= self.max_held");
-    replace(t, 1, "held.len() >= MAX_HELD", "held.len() >= self.max_held");
-    replace(t, 1, "pub struct MarketMerge {\n", "pub struct MarketMerge {\n    pub max_held: usize,\n");
+    // request 5: each line has a held limit of its own, from its subscription until its connection is dropped
+    let limits = "    pub limits: std::collections::BTreeMap<ConnId, usize>,\n";
+    replace(t, 1, "pub struct MarketMerge {\n", &format!("pub struct MarketMerge {{\n{limits}"));
+    replace(t, 1, SUBSCRIBE, &format!("{LIMITED}        self.limits.insert(conn, limit);\n"));
+    replace(t, 1, DROP, &format!("{DROP}        self.limits.remove(&conn);\n"));
+    replace(t, 1, "items.len() >= MAX_HELD", "items.len() >= self.limits[&conn]");
+    replace(t, 1, "held.len() >= MAX_HELD", "held.len() >= self.limits[&conn]");
     // fields readable, and base set to the start number
     replace(t, 1, "pub struct EventKey(u64, u64);", "pub struct EventKey(pub u64, pub u64);");
     replace(t, 1, "\nenum Item {", "\npub enum Item {");

@@ -13,7 +13,7 @@ extern "C" {
         start: u64,
         count: &mut u64,
     ) -> u64;
-    fn merge_subscribe(s: *mut u64, n: usize, conn: u64, t: u64, count: &mut u64) -> u64;
+    fn merge_subscribe(s: *mut u64, n: usize, conn: u64, limit: u64, t: u64, count: &mut u64) -> u64;
     fn merge_snapshot(
         s: *mut u64,
         n: usize,
@@ -124,7 +124,7 @@ impl Lent {
         unsafe {
             match *call {
                 Call::Setup { limits: x, start } => merge_setup(s, n, x.l, x.h, x.g, x.c, x.d, start, count),
-                Call::Subscribe { conn } => merge_subscribe(s, n, conn, t, count),
+                Call::Subscribe { conn, limit } => merge_subscribe(s, n, conn, limit, t, count),
                 Call::Snapshot { conn, token, message } => merge_snapshot(s, n, out, m, conn, token, message, t, count),
                 Call::Book { conn, key, message } => merge_book_event(s, n, out, m, conn, key.0, key.1, message, t, count),
                 Call::Print { conn, key, message } => merge_print(s, n, out, m, conn, key.0, key.1, message, t, count),

@@ -49,8 +49,8 @@ fn limits(r: &mut Random, list: u64) -> Limits {
     let x = Limits {
         l: r.of(&[1, 2, 2, 2, 3, 3, 3, 4, 4, 4]),
         h: match r.below(10) {
-            0..=2 => 32,
-            3 | 4 => r.between(6, 9),
+            0..=3 => 32,
+            4 | 5 => r.between(6, 9),
             _ => r.between(1, 6),
         },
         g: match (tight, turning) {
@@ -114,9 +114,9 @@ pub fn list(r: &mut Random, s: &mut Setup, by_hand: u64, wrong: u64) -> Vec<Step
 // The kind and key of the call that brings each message, also of those that a market made by hand holds.
 pub fn keys_of(s: &Setup, steps: &[Step]) -> HashMap<u64, (u64, Key)> {
     let mut keys = HashMap::new();
-    for (line, held) in s.from.iter().flat_map(|(m, _)| m.lines.values()) {
-        keys.extend(held.iter().map(|(key, message)| (*message, (2, *key))));
-        keys.extend(line.items().iter().map(|item| match item {
+    for c in s.from.iter().flat_map(|(m, _)| m.lines.values()) {
+        keys.extend(c.held.iter().map(|(key, message)| (*message, (2, *key))));
+        keys.extend(c.line.items().iter().map(|item| match item {
             Item::Snapshot(_, message) => (*message, (0, (0, 0))),
             Item::Event(key, message) => (*message, (1, *key)),
         }));

@@ -6,6 +6,7 @@
 mod calling;
 mod coverage;
 mod exported;
+mod failing;
 mod lists;
 mod markets;
 mod merge;
@@ -61,6 +62,7 @@ fn compare(count: u64, time: Duration, seed: u64) {
     }
     let mut none = seen.table();
     none.extend(seen.lists());
+    none.extend(seen.limited());
     seen.changes();
     println!("same: seed {seed}, {i} lists, {made} calls, {:.0} s", begin.elapsed().as_secs_f64());
     if i >= ENOUGH && !none.is_empty() {

@@ -1,7 +1,7 @@
-// Random sound markets, also such as no calls make: a line in line below base or holding prints, more than H items, counts near 2^32,
-// a snapshot time that is not since. Numbers lie at the edges of what is sound.
+// Random sound markets, also such as no calls make: a line in line below base or holding prints, more than H items, more prints than
+// the line's limit, counts near 2^32, a snapshot time that is not since. Numbers lie at the edges of what is sound.
 use crate::random::Random;
-use crate::reading::{Held, Item, Line, Market};
+use crate::reading::{Conn, Held, Item, Line, Market};
 use crate::words::{Key, Limits};
 use std::collections::BTreeMap;
 
@@ -24,6 +24,16 @@ struct Maker<'a> {
     // items that the log's limit leaves room for
     room: u64,
     made: u64,
+}
+
+// A line's limit: H, few, or any.
+pub fn limit(r: &mut Random, x: Limits) -> u64 {
+    let h = x.h.max(1);
+    match r.below(10) {
+        0..=3 => h,
+        4..=6 => r.between(1, h.min(3)),
+        _ => r.between(1, h),
+    }
 }
 
 pub fn market(r: &mut Random, x: Limits, of: &Made) -> Market {
@@ -81,19 +91,20 @@ impl Maker<'_> {
     fn lines(&mut self, m: &mut Market) {
         for conn in self.of.conns {
             if (m.lines.len() as u64) < self.x.l && self.r.percent(85) {
-                let line = self.line(m);
-                let held = self.held();
-                m.lines.insert(*conn, (line, held));
+                let limit = limit(self.r, self.x);
+                let line = self.line(m, limit);
+                let held = self.held(limit);
+                m.lines.insert(*conn, Conn { limit, line, held });
             }
         }
     }
 
-    fn line(&mut self, m: &Market) -> Line {
+    fn line(&mut self, m: &Market, limit: u64) -> Line {
         let since = self.time();
         match self.r.below(8) {
-            0 | 1 => Line::Waiting { items: self.items(m), since },
+            0 | 1 => Line::Waiting { items: self.items(m, limit), since },
             2..=4 => {
-                let items = self.items(m);
+                let items = self.items(m, limit);
                 let snapshot = self.r.percent(70).then(|| self.time());
                 Line::Pending { items, snapshot, since }
             }
@@ -107,10 +118,10 @@ impl Maker<'_> {
     }
 
     // Events of the stream from some number on, and snapshots between them.
-    fn items(&mut self, m: &Market) -> Vec<Item> {
+    fn items(&mut self, m: &Market, limit: u64) -> Vec<Item> {
         let (h, most) = (self.x.h, self.x.h + 8);
         let some = self.r.below(h.min(8) + 1);
-        let count = self.r.of(&[0, 1, some, some, h.saturating_sub(1), h, h + 1, most]).min(most).min(self.room);
+        let count = self.r.of(&[0, 1, some, some, limit - 1, limit, limit + 1, h, h + 1, most]).min(most).min(self.room);
         self.room -= count;
         let mut number = m.base.saturating_add(self.r.below(m.log.len() as u64 + 2)).saturating_sub(self.r.below(3));
         let mut items = Vec::new();
@@ -126,9 +137,11 @@ impl Maker<'_> {
         items
     }
 
-    fn held(&mut self) -> Held {
+    // Of a part of the keys, so that there are others.
+    fn held(&mut self, limit: u64) -> Held {
+        let keys = &self.of.keys[..self.r.between(1, self.of.keys.len() as u64) as usize];
         let few = self.r.below(self.x.h.min(4) + 1);
-        let count = self.r.of(&[0, 0, few, self.x.h.saturating_sub(1), self.x.h]);
-        (0..count).map(|_| (self.r.of(self.of.keys), self.message())).collect()
+        let count = self.r.of(&[0, 0, few, limit - 1, limit, limit + 1, limit + 1, self.x.h]).min(self.x.h);
+        (0..count).map(|_| (self.r.of(keys), self.message())).collect()
     }
 }

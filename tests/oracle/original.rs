@@ -1,9 +1,9 @@
 // The original's side: the same calls on the edited MarketMerge, its answers and its fields in the terms of words.rs.
 use crate::lists::Setup;
 use crate::merge::{self, Applied, Copies, EventKey, Expired, Lost, MarketMerge, Step};
-use crate::reading::{Item, Line, Market};
+use crate::reading::{Conn, Item, Line, Market};
 use crate::shim::Instant;
-use crate::words::{Call, Key, Limits};
+use crate::words::{Call, Key};
 use std::collections::{BTreeMap, HashMap};
 
 // A record as the original has it: connection, message, whether it is a snapshot.
@@ -44,17 +44,16 @@ fn lost(lost: Lost) -> Answer {
     }
 }
 
-fn new(x: Limits, start: u64) -> MarketMerge {
+fn new(start: u64) -> MarketMerge {
     let mut m = MarketMerge::default();
-    m.max_held = x.h as usize;
     m.base = start;
     m
 }
 
 // What a list starts from.
 pub fn start(s: &Setup) -> MarketMerge {
-    let Some((from, _)) = &s.from else { return new(s.limits, s.start) };
-    let mut m = new(s.limits, from.base);
+    let Some((from, _)) = &s.from else { return new(s.start) };
+    let mut m = new(from.base);
     m.last_applied = from.last_applied.map(Instant);
     for (i, ((a, b), at)) in from.log.iter().enumerate() {
         m.log.push_back((EventKey(*a, *b), Instant(*at)));
@@ -67,9 +66,10 @@ pub fn start(s: &Setup) -> MarketMerge {
     for (((a, b), conn), delivered) in &from.counts {
         m.others.get_mut(&EventKey(*a, *b)).expect("each count has its key").delivered.insert(*conn, *delivered as u32);
     }
-    for (conn, (line, held)) in &from.lines {
-        m.lines.insert(*conn, made_line(line));
-        m.held_prints.insert(*conn, held.iter().map(|((a, b), message)| (EventKey(*a, *b), *message)).collect());
+    for (conn, c) in &from.lines {
+        m.limits.insert(*conn, c.limit as usize);
+        m.lines.insert(*conn, made_line(&c.line));
+        m.held_prints.insert(*conn, c.held.iter().map(|((a, b), message)| (EventKey(*a, *b), *message)).collect());
     }
     m
 }
@@ -93,12 +93,12 @@ fn made_line(line: &Line) -> merge::Line {
 pub fn call(m: &mut MarketMerge, call: &Call, t: u64, same: &dyn Fn(&[u64]) -> bool) -> Answer {
     let now = Instant(t);
     match *call {
-        Call::Setup { limits, start } => {
-            *m = new(limits, start);
+        Call::Setup { start, .. } => {
+            *m = new(start);
             said("done", Vec::new())
         }
-        Call::Subscribe { conn } => {
-            m.subscribe(conn, now);
+        Call::Subscribe { conn, limit } => {
+            m.subscribe(conn, limit as usize, now);
             said("done", Vec::new())
         }
         Call::Snapshot { conn, token, message } => stepped(m.snapshot(conn, token as usize, &message, now)),
@@ -157,6 +157,7 @@ fn line(l: &merge::Line) -> Line {
 }
 
 pub fn reading(m: &MarketMerge) -> Market {
+    let limit = |conn: &u64| m.limits.get(conn).map_or(0, |limit| *limit as u64);
     let held = |conn: &u64| m.held_prints.get(conn).into_iter().flatten().map(|(k, msg)| (key(k), *msg)).collect();
     let mut counts = BTreeMap::new();
     for (k, copies) in &m.others {
@@ -168,11 +169,12 @@ pub fn reading(m: &MarketMerge) -> Market {
         last_applied: m.last_applied.map(|at| at.0),
         keys: m.others.iter().map(|(k, copies)| (key(k), (copies.applied as u64, copies.touched.0))).collect(),
         counts,
-        lines: m.lines.iter().map(|(conn, l)| (*conn, (line(l), held(conn)))).collect(),
+        lines: m.lines.iter().map(|(conn, l)| (*conn, Conn { limit: limit(conn), line: line(l), held: held(conn) })).collect(),
     }
 }
 
-// Held prints of a connection that has no line: the reading has no place for them.
-pub fn stray_prints(m: &MarketMerge) -> bool {
-    m.held_prints.iter().any(|(conn, held)| !held.is_empty() && !m.lines.contains_key(conn))
+// Held prints or the limit of a connection that has no line: the reading has no place for them.
+pub fn stray(m: &MarketMerge) -> bool {
+    let held = m.held_prints.iter().filter(|(_, held)| !held.is_empty()).map(|(conn, _)| conn);
+    held.chain(m.limits.keys()).any(|conn| !m.lines.contains_key(conn))
 }

@@ -43,6 +43,14 @@ impl Line {
 
 pub type Held = Vec<(Key, u64)>;
 
+// A connection's line and held prints, and its limit: how many items or held prints make the line fail.
+#[derive(Clone, Debug, PartialEq)]
+pub struct Conn {
+    pub limit: u64,
+    pub line: Line,
+    pub held: Held,
+}
+
 #[derive(Clone, Debug, PartialEq)]
 pub struct Market {
     pub base: u64,
@@ -51,16 +59,15 @@ pub struct Market {
     // each key's applied count and touched time
     pub keys: BTreeMap<Key, (u64, u64)>,
     pub counts: BTreeMap<(Key, u64), u64>,
-    // each connection's line and held prints
-    pub lines: BTreeMap<u64, (Line, Held)>,
+    pub lines: BTreeMap<u64, Conn>,
 }
 
 impl Market {
     pub fn line(&self, conn: u64) -> Option<&Line> {
-        self.lines.get(&conn).map(|(line, _)| line)
+        self.lines.get(&conn).map(|c| &c.line)
     }
     pub fn each_line(&self) -> impl Iterator<Item = &Line> {
-        self.lines.values().map(|(line, _)| line)
+        self.lines.values().map(|c| &c.line)
     }
     pub fn end(&self) -> u64 {
         self.base + self.log.len() as u64
@@ -87,7 +94,7 @@ pub fn reading(w: &[u64]) -> Result<Market, String> {
             return Err("connections do not rise".into());
         }
         let held = a[4 * h + 64..].chunks(3).take(a[9] as usize).map(|p| ((p[0], p[1]), p[2])).collect();
-        lines.insert(a[0], (line(a)?, held));
+        lines.insert(a[0], Conn { limit: a[10], line: line(a)?, held });
     }
     let (key_rows, count_rows) = ((w[10] + w[13]) as usize, (w[11] + w[14]) as usize);
     let keys: BTreeMap<_, _> = prints.chunks(4).take(key_rows).map(|r| ((r[0], r[1]), (r[2], r[3]))).collect();

@@ -1,6 +1,7 @@
 // Which calls 01 refuses ("Numbered refusals"), told from the market before the call and from what is lent. The original has no
 // limits: a call that is refused is not made there.
 use crate::exported::Lent;
+use crate::failing;
 use crate::reading::{Line, Market};
 use crate::words::{Call, Limits};
 
@@ -48,14 +49,16 @@ pub fn by_state(m: &Market, x: Limits, call: &Call) -> u64 {
         0
     };
     match call {
-        Call::Subscribe { conn } if !m.lines.contains_key(conn) && m.lines.len() as u64 == x.l => 4,
+        Call::Subscribe { limit, .. } if *limit == 0 || *limit > x.h => 18,
+        Call::Subscribe { conn, .. } if !m.lines.contains_key(conn) && m.lines.len() as u64 == x.l => 4,
         Call::Snapshot { conn, .. } => match m.line(*conn) {
             Some(Line::Waiting { items, .. }) if items.len() == x.items() => 6,
             Some(Line::Waiting { .. }) => full,
             _ => 0,
         },
+        Call::Book { .. } if failing::by_items(m, call).is_some() => 0,
         Call::Book { conn, .. } => match m.line(*conn) {
-            Some(Line::Waiting { items, .. } | Line::Pending { items, .. }) if (items.len() as u64) < x.h => full,
+            Some(Line::Waiting { .. } | Line::Pending { .. }) => full,
             Some(Line::InLine { next, .. }) if *next >= m.base && *next >= m.end() => full,
             _ => 0,
         },

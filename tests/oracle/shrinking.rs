@@ -2,7 +2,7 @@
 use crate::coverage::Seen;
 use crate::lists::{Setup, Step};
 use crate::random::Random;
-use crate::reading::{Line, Market};
+use crate::reading::{Conn, Line, Market};
 use crate::sides;
 use crate::sound::sound;
 use crate::writing;
@@ -84,17 +84,17 @@ fn smaller(m: &Market) -> Vec<Market> {
 
 // The same of a line's held prints and items.
 fn smaller_line(m: &Market, conn: u64) -> Vec<Market> {
-    let (line, held) = &m.lines[&conn];
+    let Conn { line, held, .. } = &m.lines[&conn];
     let fewer_held = parts(held.len()).into_iter().map(|part| {
         without(m, |m| {
-            if let Some((_, held)) = m.lines.get_mut(&conn) {
-                held.drain(part);
+            if let Some(c) = m.lines.get_mut(&conn) {
+                c.held.drain(part);
             }
         })
     });
     let fewer_items = parts(line.items().len()).into_iter().map(|part| {
         without(m, |m| {
-            if let Some((Line::Waiting { items, .. } | Line::Pending { items, .. }, _)) = m.lines.get_mut(&conn) {
+            if let Some(Line::Waiting { items, .. } | Line::Pending { items, .. }) = m.lines.get_mut(&conn).map(|c| &mut c.line) {
                 items.drain(part);
             }
         })

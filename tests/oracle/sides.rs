@@ -147,6 +147,7 @@ impl Sides<'_> {
         let p = self.proved(step)?;
         if p.refused != 0 {
             seen.note(&step.call, &p, &self.market, &self.market);
+            seen.limits(&step.call, &p, &self.market, &self.market, self.setup.limits);
             return Ok(());
         }
         let same_view = |view: &[u64]| match step.manner {
@@ -162,6 +163,7 @@ impl Sides<'_> {
             check_records(&p.records, keys, &self.market, &after)?;
         }
         seen.note(&step.call, &p, &self.market, &after);
+        seen.limits(&step.call, &p, &self.market, &after, self.setup.limits);
         seen.rows(&step.call, before.0, rows(&self.lent.store));
         seen.ring(before.1, ring(&self.lent.store), entered(&self.market, &after));
         self.market = after;
@@ -178,8 +180,8 @@ impl Sides<'_> {
         }
         same("limits", &Limits::of(words), &self.setup.limits)?;
         same("store", &reading(words)?, after)?;
-        if original::stray_prints(&self.original) {
-            return Err("the original holds prints for no line".into());
+        if original::stray(&self.original) {
+            return Err("the original has prints or a limit for no line".into());
         }
         Ok(())
     }

@@ -3,7 +3,7 @@
 use crate::words::{Limits, LAYOUT};
 
 // What can be wrong with a store.
-pub const FAULTS: [&str; 25] = [
+pub const FAULTS: [&str; 33] = [
     "shorter than a header",
     "limits out of range",
     "shorter than its limits need",
@@ -29,6 +29,14 @@ pub const FAULTS: [&str; 25] = [
     "a key stands in both runs",
     "a pair stands in both runs",
     "front at G or beyond",
+    "limit 0 of a Waiting line",
+    "limit above H of a Waiting line",
+    "limit 0 of a Pending line",
+    "limit above H of a Pending line",
+    "limit 0 of a line in line",
+    "limit above H of a line in line",
+    "limit 0 of a Failed line",
+    "limit above H of a Failed line",
 ];
 
 pub fn sound(w: &[u64]) -> bool {
@@ -89,6 +97,8 @@ fn lines(w: &[u64], x: Limits) -> Result<(), usize> {
     need(areas.windows(2).all(|a| a[0][0] < a[1][0]), 12)?;
     for a in &areas {
         need(a[1] <= 3, 13)?;
+        need(a[10] >= 1, 25 + 2 * a[1] as usize)?;
+        need(a[10] <= x.h, 26 + 2 * a[1] as usize)?;
         need(a[1] > 1 || a[2] <= x.h + 8, 14)?;
         need(a[1] > 1 || a[32..].chunks(4).take(a[2] as usize).all(|item| item[0] <= 2), 15)?;
         need(a[9] <= x.h, 16)?;

@@ -110,7 +110,10 @@ fn list(seed: u64, i: u64) -> (Vec<Step>, Seen) {
     let mut m = original::start(&REPLAY);
     let (mut steps, mut seen) = (Vec::new(), Seen::new());
     for _ in 0..length {
-        let call = maker.call(&original::reading(&m));
+        let mut call = maker.call(&original::reading(&m));
+        if let Call::Subscribe { limit, .. } = &mut call {
+            *limit = REPLAY.limits.h;
+        }
         let tick = call == Call::Tick;
         let manner = if tick { Manner::Answer(maker.view_answer()) } else { Manner::Right };
         steps.push(Step { call, t: maker.clock(tick), manner });
@@ -136,7 +139,7 @@ pub fn write(folder: &str, count: u64, seed: u64) {
     }
     for (n, i) in chosen.iter().enumerate() {
         let steps = list(seed, *i).0;
-        let calls: String = steps.iter().map(|step| text::line(step) + "\n").collect();
+        let calls: String = steps.iter().map(|step| text::line(step, true) + "\n").collect();
         let name = format!("{folder}/oracle-{:02}", n + 1);
         let head = format!("# Random calls: seed {seed}, list {i}. The answers are the original's.\n");
         fs::write(format!("{name}.calls"), head + &calls).expect("the folder can be written");
@@ -154,7 +157,7 @@ pub fn check(folder: &str) {
     names.sort();
     for name in &names {
         let calls = fs::read_to_string(name).expect("a list can be read");
-        let steps: Vec<Step> = calls.lines().filter_map(text::parse).collect();
+        let steps: Vec<Step> = calls.lines().filter_map(|line| text::parse(line, REPLAY.limits.h)).collect();
         let stored = fs::read_to_string(name.with_extension("expected")).expect("each list has its answers");
         if expected(&steps) != stored {
             failed += 1;

@@ -3,10 +3,12 @@ use crate::calling::Manner;
 use crate::lists::{Setup, Step};
 use crate::words::Call;
 
-pub fn line(step: &Step) -> String {
+// The replay program passes H, so that a subscription for it names no limit.
+pub fn line(step: &Step, for_replay: bool) -> String {
     let what = match &step.call {
         Call::Setup { limits, start } => format!("setup {:?} start {start}", limits.all()),
-        Call::Subscribe { conn } => format!("subscribe {conn}"),
+        Call::Subscribe { conn, .. } if for_replay => format!("subscribe {conn}"),
+        Call::Subscribe { conn, limit } => format!("subscribe {conn} limit {limit}"),
         Call::Snapshot { conn, token, message } => format!("snapshot {conn} token {token} message {message}"),
         Call::Book { conn, key, message } => format!("book {conn} {} {} message {message}", key.0, key.1),
         Call::Print { conn, key, message } => format!("print {conn} {} {} message {message}", key.0, key.1),
@@ -34,7 +36,7 @@ pub fn list(s: &Setup, steps: &[Step]) -> String {
         out += &format!("\n# from {m:?}");
     }
     for step in steps {
-        out += &format!("\n{}", line(step));
+        out += &format!("\n{}", line(step, false));
         if !matches!(step.manner, Manner::Right | Manner::Answer(_)) {
             out += &format!(" # lent: {:?}", step.manner);
         }
@@ -42,8 +44,8 @@ pub fn list(s: &Setup, steps: &[Step]) -> String {
     out + "\n"
 }
 
-// A call of a stored list; none in an empty line.
-pub fn parse(line: &str) -> Option<Step> {
+// A call of a stored list, where a subscription that names no limit has this one; none in an empty line.
+pub fn parse(line: &str, limit: u64) -> Option<Step> {
     let words: Vec<&str> = line.split('#').next()?.split_whitespace().collect();
     let number = |word: &str| -> u64 { word.parse().unwrap_or_else(|_| panic!("no number in {line:?}")) };
     let (what, t) = match words[..] {
@@ -53,7 +55,8 @@ pub fn parse(line: &str) -> Option<Step> {
     };
     let mut manner = Manner::Right;
     let call = match what {
-        ["subscribe", conn] => Call::Subscribe { conn: number(conn) },
+        ["subscribe", conn] => Call::Subscribe { conn: number(conn), limit },
+        ["subscribe", conn, "limit", limit] => Call::Subscribe { conn: number(conn), limit: number(limit) },
         ["snapshot", conn, "token", token, "message", message] => {
             Call::Snapshot { conn: number(conn), token: number(token), message: number(message) }
         }

@@ -3,7 +3,7 @@
 pub type Key = (u64, u64);
 
 // The layout of a store, in word 12 of its header.
-pub const LAYOUT: u64 = 3;
+pub const LAYOUT: u64 = 4;
 
 #[derive(Clone, Copy, Debug, PartialEq)]
 pub struct Limits {
@@ -46,7 +46,7 @@ impl Limits {
 #[derive(Clone, Debug, PartialEq)]
 pub enum Call {
     Setup { limits: Limits, start: u64 },
-    Subscribe { conn: u64 },
+    Subscribe { conn: u64, limit: u64 },
     Snapshot { conn: u64, token: u64, message: u64 },
     Book { conn: u64, key: Key, message: u64 },
     Print { conn: u64, key: Key, message: u64 },

@@ -25,10 +25,11 @@ pub fn words(m: &Market, x: Limits, r: &mut Random) -> Vec<u64> {
     let counts = m.counts.iter().map(|((key, conn), delivered)| [key.0, key.1, *conn, *delivered]);
     (w[11], w[14]) = write_rows(&mut w[at + 4 * c..], counts, r);
     let areas = w[at + 4 * c + 4 * d..].chunks_mut(7 * x.h as usize + 64);
-    for (area, (conn, (line, held))) in areas.zip(&m.lines) {
+    for (area, (conn, c)) in areas.zip(&m.lines) {
         area[0] = *conn;
-        write_line(area, line, r);
-        write_held(area, x, held);
+        area[10] = c.limit;
+        write_line(area, &c.line, r);
+        write_held(area, x, &c.held);
     }
     w
 }

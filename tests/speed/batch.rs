@@ -23,26 +23,27 @@ pub struct Batch {
     answers: Vec<u64>,
 }
 
-// The words of a call. No line enters by its view in any load, so the last is 0.
+// The words of a call; every line's limit is `held`. No line enters by its view in any load, so the last is 0.
 #[inline]
-fn words(c: &Timed) -> [u64; CALL] {
-    let (number, token, key) = match c.call {
-        Call::Subscribe => (1, 0, (0, 0)),
+fn words(c: &Timed, held: u64) -> [u64; CALL] {
+    let (number, token_or_limit, key) = match c.call {
+        Call::Subscribe => (1, held, (0, 0)),
         Call::Snapshot(token) => (2, token as u64, (0, 0)),
         Call::Book(key) => (3, 0, key),
         Call::Print(key) => (4, 0, key),
         Call::Drop => (5, 0, (0, 0)),
         Call::Tick => (8, 0, (0, 0)),
     };
-    [number, c.conn, token, key.0, key.1, c.message, c.t, 0]
+    [number, c.conn, token_or_limit, key.0, key.1, c.message, c.t, 0]
 }
 
 impl Batch {
     // How many calls were done, and the sum of their answers.
     fn list(&mut self, list: &[Timed]) -> (usize, u64) {
         self.calls.clear();
-        list.iter().for_each(|c| self.calls.extend_from_slice(&words(c)));
         let m = &mut self.market;
+        let held = m.words[1];
+        list.iter().for_each(|c| self.calls.extend_from_slice(&words(c, held)));
         let (mut done, mut count, mut reported) = (0, 0, 0);
         // SAFETY: the calls take any words; the lists and counts are apart.
         #[rustfmt::skip]

@@ -8,7 +8,8 @@ macro_rules! original {
             use super::*;
             use crate::$module::merge::{Applied, EventKey, Expired, Lost, MarketMerge, Step};
 
-            pub struct $side(MarketMerge);
+            // with the limit of every line
+            pub struct $side(MarketMerge, usize);
 
             #[inline]
             fn sum(out: Vec<Applied>) -> u64 {
@@ -45,9 +46,7 @@ macro_rules! original {
 
             impl Side for $side {
                 fn new(limits: Limits) -> Self {
-                    let mut market = MarketMerge::default();
-                    market.max_held = limits.held as usize;
-                    $side(market)
+                    $side(MarketMerge::default(), limits.held as usize)
                 }
 
                 #[inline]
@@ -60,7 +59,7 @@ macro_rules! original {
                         Call::Tick => m.tick(c.at, &|_| false).into_iter().map(expired).sum(),
                         Call::Drop => lost(m.drop_conn(c.conn, c.at)),
                         Call::Subscribe => {
-                            m.subscribe(c.conn, c.at);
+                            m.subscribe(c.conn, self.1, c.at);
                             0
                         }
                     }

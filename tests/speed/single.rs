@@ -2,7 +2,7 @@
 use crate::calls::{self, Call, Side, Timed};
 use pollendrift::Limits;
 
-type Plain = unsafe extern "C" fn(*mut u64, usize, u64, u64, &mut u64) -> u64;
+type Subscribe = unsafe extern "C" fn(*mut u64, usize, u64, u64, u64, &mut u64) -> u64;
 type Snapshot = unsafe extern "C" fn(*mut u64, usize, *mut u64, usize, u64, u64, u64, u64, &mut u64) -> u64;
 type Keyed = unsafe extern "C" fn(*mut u64, usize, *mut u64, usize, u64, u64, u64, u64, u64, &mut u64) -> u64;
 type Drop = unsafe extern "C" fn(*mut u64, usize, *mut u64, usize, u64, u64, &mut u64) -> u64;
@@ -11,7 +11,7 @@ type Tick = unsafe extern "C" fn(
     *mut u64, usize, *mut u64, usize, *mut u64, usize, *const u64, usize, u64, &mut u64, &mut u64) -> u64;
 
 struct Calls {
-    subscribe: Plain,
+    subscribe: Subscribe,
     snapshot: Snapshot,
     book_event: Keyed,
     print: Keyed,
@@ -23,7 +23,7 @@ struct Calls {
 macro_rules! declare {
     ($all:ident, $subscribe:ident, $snapshot:ident, $book_event:ident, $print:ident, $drop:ident, $tick:ident) => {
         extern "C" {
-            fn $subscribe(s: *mut u64, n: usize, conn: u64, t: u64, count: &mut u64) -> u64;
+            fn $subscribe(s: *mut u64, n: usize, conn: u64, limit: u64, t: u64, count: &mut u64) -> u64;
             fn $snapshot(s: *mut u64, n: usize, out: *mut u64, m: usize, conn: u64, token: u64, message: u64, t: u64,
                 count: &mut u64) -> u64;
             fn $book_event(s: *mut u64, n: usize, out: *mut u64, m: usize, conn: u64, k0: u64, k1: u64, message: u64, t: u64,
@@ -76,7 +76,8 @@ impl Single {
                     (by.tick)(s, n, out, m, list, k, VIEWS.as_ptr(), lines, c.t, &mut count, &mut reported)
                 }
                 Call::Drop => (by.drop)(s, n, out, m, c.conn, c.t, &mut count),
-                Call::Subscribe => (by.subscribe)(s, n, c.conn, c.t, &mut count),
+                // every line's limit is the held limit
+                Call::Subscribe => (by.subscribe)(s, n, c.conn, self.words[1], c.t, &mut count),
             }
         };
         answered(code, count) + self.put_out(count as usize, reported as usize)

@@ -39,7 +39,7 @@ use Rattle.batch.specs.Turn.{outcome, Calls, Does, Reasons}
 -- ---- the call of a number
 
 module _ (w : List ℕ) (m : Market) (room reports : ℕ) where
-  call-1 : getD w 0 0 ≡ 1 → callIn w m room reports ≡ some (Subscribe (getD w 1 0) (getD w 6 0))
+  call-1 : getD w 0 0 ≡ 1 → callIn w m room reports ≡ some (Subscribe (getD w 1 0) (getD w 2 0) (getD w 6 0))
   unfolding callIn
   call-1 e = rw e refl
 
@@ -204,7 +204,7 @@ module _ (w s s₁ : List ℕ) (r : Changed) (v q : List ℕ) where
   by-changed : (x : Call) → callIn w (marketOf s) (records v) (reportRoom q) ≡ some x → Steps x (alone s) (ofChanged r) (alone s₁) → Calls w (lentAll s v q) (ofChanged r) (lentAll s₁ v q)
   by-changed x e d = by w x (lentAll s v q) (ofChanged r) (lentAll s₁ v q) e (with-lists _ (ofChanged r) s s₁ d (changed-none r) v q)
 
-  pub subscribes : getD w 0 0 ≡ 1 → Steps (Subscribe (getD w 1 0) (getD w 6 0)) (alone s) (ofChanged r) (alone s₁) → Calls w (lentAll s v q) (ofChanged r) (lentAll s₁ v q)
+  pub subscribes : getD w 0 0 ≡ 1 → Steps (Subscribe (getD w 1 0) (getD w 2 0) (getD w 6 0)) (alone s) (ofChanged r) (alone s₁) → Calls w (lentAll s v q) (ofChanged r) (lentAll s₁ v q)
   subscribes e d = by-changed _ (call-1 w (marketOf s) (records v) (reportRoom q) e) d
 
   pub resets : getD w 0 0 ≡ 7 → Steps (Reset (getD w 6 0)) (alone s) (ofChanged r) (alone s₁) → Calls w (lentAll s v q) (ofChanged r) (lentAll s₁ v q)

@@ -27,8 +27,8 @@ unfoldable pub bits : ℕ → ℕ → List ℕ
 bits zero x = []
 bits (suc n) x = x % 2 ∷ bits n (x / 2)
 
--- a call is eight words: its number (1 to 8, in demand 3's order), connection, index, key, key, message, time, and the view answers of
--- a tick as binary digits, the lowest for the first line
+-- a call is eight words: its number (1 to 8, in demand 3's order), connection, a snapshot's index or a subscription's limit (request 5),
+-- key, key, message, time, and the view answers of a tick as binary digits, the lowest for the first line
 unfoldable pub callIn : List ℕ → Market → (room reports : ℕ) → Option Call
 callIn w m room reports =
     let number = getD w 0 0 in
@@ -36,7 +36,7 @@ callIn w m room reports =
     let k = key (getD w 3 0) (getD w 4 0) in
     let message = getD w 5 0 in
     let time = getD w 6 0 in
-    cond (eqb number 1) (some (Subscribe conn time))
+    cond (eqb number 1) (some (Subscribe conn (getD w 2 0) time))
     (cond (eqb number 2) (some (Snapshot conn (getD w 2 0) message time room))
     (cond (eqb number 3) (some (BookEvent conn k message time room))
     (cond (eqb number 4) (some (Print conn k message time room))

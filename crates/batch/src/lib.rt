@@ -148,7 +148,7 @@ fn first_six(s: &mut [u64], out: &mut [u64], w: &[u64]) -> Told
         return codes::of_step(a);
     }
     if number == 1 {
-        let a = steps::subscribe(s, w[1], w[6]);
+        let a = steps::subscribe(s, w[1], w[2], w[6]);
         return codes::of_changed(a);
     }
     no_call()

@@ -11,12 +11,12 @@ ghost use Rattle.market_tick.specs.Turns.{lentAll};
 ghost use Rattle.steps.specs.Steps.{records, reportRoom};
 ghost use Rattle.promise.specs.Meets.{Promise, ofCall, says};
 
-// A connection subscribes: its delivered counts go, and its line becomes Waiting, empty, since t.
-pub fn subscribe(s: &mut [u64], conn: u64, t: u64) -> Changed
-    ensures { λ r. ⌜ Promise (ofCall (Subscribe conn t)) (alone (now (s .entry))) (says (ofChanged r)) (alone (now (s .exit))) ⌝ }
+// A connection subscribes: its delivered counts go, and its line becomes Waiting, empty, since t, with this limit, 1 to H.
+pub fn subscribe(s: &mut [u64], conn: u64, limit: u64, t: u64) -> Changed
+    ensures { λ r. ⌜ Promise (ofCall (Subscribe conn limit t)) (alone (now (s .entry))) (says (ofChanged r)) (alone (now (s .exit))) ⌝ }
 {
     if sound::is_sound(s) {
-        return steps::subscribe(s, conn, t);
+        return steps::subscribe(s, conn, limit, t);
     }
     Changed::Refused(1)
 }

@@ -80,7 +80,7 @@ fn view(s: &[u64], lengths: &[u64; 4], n: &[u64; 8]) {
 fn change(s: &mut [u64], n: &[u64; 8], form: u64) {
     match form {
         0 => setup(s, n),
-        1 => answers::changed(calls::subscribe(s, n[0], n[1])),
+        1 => answers::changed(calls::subscribe(s, n[0], n[1], n[2])),
         _ => answers::changed(calls::reset(s, n[0])),
     }
 }

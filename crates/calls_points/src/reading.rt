@@ -105,7 +105,7 @@ fn which(forms: &[u8], line: &[u8]) -> u64 {
 pub fn form_of(line: &[u8]) -> u64 {
     which(
         b"setup 0 0 0 0 0 start 0 words 0
-subscribe 0 at 0
+subscribe 0 limit 0 at 0
 reset at 0
 snapshot 0 token 0 message 0 at 0
 book 0 key 0 0 message 0 at 0

@@ -45,11 +45,17 @@ pub extern "C" fn merge_setup(
 }
 
 #[no_mangle]
-pub extern "C" fn merge_subscribe(s: &mut [u64], conn: u64, t: u64, count: &mut u64) -> u64
+pub extern "C" fn merge_subscribe(
+    s: &mut [u64],
+    conn: u64,
+    limit: u64,
+    t: u64,
+    count: &mut u64,
+) -> u64
     ensures { λ r. ⌜ Telling (λ a. Tells a r (now (count .exit)) 0)
-        (λ a. Promise (ofCall (Subscribe conn t)) (alone (now (s .entry))) (says a) (alone (now (s .exit)))) ⌝ }
+        (λ a. Promise (ofCall (Subscribe conn limit t)) (alone (now (s .entry))) (says a) (alone (now (s .exit)))) ⌝ }
 {
-    let a = calls::subscribe(s, conn, t);
+    let a = calls::subscribe(s, conn, limit, t);
     let told = codes::of_changed(a);
     *count = told.count;
     told.code

@@ -7,7 +7,7 @@ use native.Mathlib.Numerals.{add-one}
 use lib.ListN.{length, getD, set}
 use Rattle.rules.specs.declared.Limits.{Limits}
 use Rattle.rules.specs.Lines as Rules
-use Rattle.rules.specs.Lines.{Connection, Market, nobody, connAt, withLines, setLine}
+use Rattle.rules.specs.Lines.{Connection, Market, nobody, connAt, withLines, setLine, withLine}
 use Rattle.rules.specs.Calls.{eachLine}
 use Rattle.lines.specs.declared.Line.{Line}
 use Rattle.lines.specs.Line.{lineOf}
@@ -55,7 +55,7 @@ module _ {A : Type 0} (f : A → A) where
 -- ---- the first i lines of a store changed
 
 abbrev pub onLine : (Rules.Line → Rules.Line) → Connection → Connection
-onLine f s = record { conn = s .conn; line = f (s .line); held = s .held }
+onLine f s = withLine (f (s .line)) s
 
 module _ (f : Rules.Line → Rules.Line) (w : List ℕ) where
   -- the words w became v, of which the first i lines are changed

@@ -1,13 +1,13 @@
 -- What remove and subscribe leave, by the place that they find.
 use mathlib.Core.Path.{_≡_, refl, sym, ap, _∙_, subst}
-use mathlib.Core.List.{List, []}
+use mathlib.Core.List.{List}
 use mathlib.Core.Bool.{false, not, _&&_}
 use Prim.Native.Nat.{ℕ, _≤_, _<_}
 use lib.Dec.{leb, eqb}
 use lib.ListN.{length, getD, set}
 use Rattle.rules.specs.Lists.{keep, any, index}
 use Rattle.rules.specs.Lines as Rules
-use Rattle.rules.specs.Lines.{Connection, nobody, connAt, waiting, subscribed, withLines, setConn}
+use Rattle.rules.specs.Lines.{Connection, nobody, connAt, waiting, subscribed, withLines}
 use Rattle.rules.proofs.Tests.{leb-false}
 use Rattle.store.specs.Store.{limitsOf, lineCount, marketOf, Sound}
 use Rattle.store.specs.Moves.{Moved}
@@ -43,16 +43,15 @@ module _ (w : List ℕ) (s : Sound w) (i conn : ℕ) where
   Stands = (i < lineCount w) × ((connAt i (marketOf w)) .conn ≡ conn)
 
   module _ (q : i ≡ index (notLower conn) (marketOf w .lines)) where
-    pub replaced : (t : ℕ) → Stands → (v : List ℕ) → Moved w v (setConn i (Rules.Waiting [] t) [] (marketOf w))
-        → Moved w v (withLines (subscribed conn t (marketOf w .lines)) (marketOf w))
-    replaced t h v a =
+    pub replaced : (limit t : ℕ) → Stands → (v : List ℕ) → Moved w v (withLines (set (marketOf w .lines) i (waiting conn limit t)) (marketOf w))
+        → Moved w v (withLines (subscribed conn limit t (marketOf w .lines)) (marketOf w))
+    replaced limit t h v a =
         let l : i < length (marketOf w .lines) = rw (lines-count w) (h .0) in
         moved-is refl a
-        (ap (λ (n : ℕ). withLines (set (marketOf w .lines) i (waiting n t)) (marketOf w)) (h .1)
-        ∙ ap (λ (n : ℕ). withLines (set (marketOf w .lines) n (waiting conn t)) (marketOf w)) q
+        (ap (λ (n : ℕ). withLines (set (marketOf w .lines) n (waiting conn limit t)) (marketOf w)) q
         ∙ ap (λ (x : List Connection). withLines x (marketOf w))
         (sym
-        (subscribed-there conn t (marketOf w .lines) (subst (λ (n : ℕ). n < length (marketOf w .lines)) q l)
+        (subscribed-there conn limit t (marketOf w .lines) (subst (λ (n : ℕ). n < length (marketOf w .lines)) q l)
         (subst (λ (n : ℕ). (getD (marketOf w .lines) n nobody) .conn ≡ conn) q (h .1)))))
 
     module _ (no : Stands → ⊥) where
@@ -74,9 +73,9 @@ module _ (w : List ℕ) (s : Sound w) (i conn : ℕ) where
             room = rw (lines-count w) at u;
           }
 
-      pub put-in : (t : ℕ) (v : List ℕ) → Moved w v (withLines (inserted i (waiting conn t) (marketOf w .lines)) (marketOf w))
-          → Moved w v (withLines (subscribed conn t (marketOf w .lines)) (marketOf w))
-      put-in t v a =
+      pub put-in : (limit t : ℕ) (v : List ℕ) → Moved w v (withLines (inserted i (waiting conn limit t) (marketOf w .lines)) (marketOf w))
+          → Moved w v (withLines (subscribed conn limit t (marketOf w .lines)) (marketOf w))
+      put-in limit t v a =
           moved-is refl a
-          (ap (λ (n : ℕ). withLines (inserted n (waiting conn t) (marketOf w .lines)) (marketOf w)) q
-          ∙ ap (λ (x : List Connection). withLines x (marketOf w)) (sym (subscribed-new conn t (marketOf w .lines) absent)))
+          (ap (λ (n : ℕ). withLines (inserted n (waiting conn limit t) (marketOf w .lines)) (marketOf w)) q
+          ∙ ap (λ (x : List Connection). withLines x (marketOf w)) (sym (subscribed-new conn limit t (marketOf w .lines) absent)))

@@ -1,4 +1,3 @@
 pub mod EachLaws
 pub mod ListedLaws
-pub mod WaitingLaws
 pub mod FoundLaws

@@ -70,18 +70,18 @@ pub stands : (i n r m c : ℕ) → i < n → r ≡ m → Says (eqb r c) ((i < n)
 stands i n r m c h e = says (eqb r c) ((i < n) × (m ≡ c)) (λ t. (h, sym e ∙ eqb-true t)) (λ t p. eqb-false t (e ∙ p .1))
 
 -- the line there is the connection's
-pub subscribed-there : (c t : ℕ) (ls : List Connection) → index (notLower c) ls < length ls → (getD ls (index (notLower c) ls) nobody) .conn ≡ c
-    → subscribed c t ls ≡ set ls (index (notLower c) ls) (waiting c t)
+pub subscribed-there : (c limit t : ℕ) (ls : List Connection) → index (notLower c) ls < length ls → (getD ls (index (notLower c) ls) nobody) .conn ≡ c
+    → subscribed c limit t ls ≡ set ls (index (notLower c) ls) (waiting c limit t)
 unfolding subscribed
-subscribed-there c t [] h e = absurd (not-suc-le-zero h)
-subscribed-there c t (x ∷ xs) h e = go (leb c (x .conn)) refl (subscribed-there c t xs) h e
+subscribed-there c limit t [] h e = absurd (not-suc-le-zero h)
+subscribed-there c limit t (x ∷ xs) h e = go (leb c (x .conn)) refl (subscribed-there c limit t xs) h e
   where
     go : (b : Bool) → leb c (x .conn) ≡ b
-        → (index (notLower c) xs < length xs → (getD xs (index (notLower c) xs) nobody) .conn ≡ c → subscribed c t xs ≡ set xs (index (notLower c) xs) (waiting c t))
+        → (index (notLower c) xs < length xs → (getD xs (index (notLower c) xs) nobody) .conn ≡ c → subscribed c limit t xs ≡ set xs (index (notLower c) xs) (waiting c limit t))
         → cond b zero (suc (index (notLower c) xs)) < suc (length xs)
         → (getD (x ∷ xs) (cond b zero (suc (index (notLower c) xs))) nobody) .conn ≡ c
-        → cond (ltb c (x .conn)) (waiting c t ∷ x ∷ xs) (cond (eqb (x .conn) c) (waiting c t ∷ xs) (x ∷ subscribed c t xs))
-        ≡ set (x ∷ xs) (cond b zero (suc (index (notLower c) xs))) (waiting c t)
+        → cond (ltb c (x .conn)) (waiting c limit t ∷ x ∷ xs) (cond (eqb (x .conn) c) (waiting c limit t ∷ xs) (x ∷ subscribed c limit t xs))
+        ≡ set (x ∷ xs) (cond b zero (suc (index (notLower c) xs))) (waiting c limit t)
     go true q r h e = let z : eqb (x .conn) c ≡ true = ap (λ (n : ℕ). eqb n c) e ∙ eqb-same c in rw (le-ltb c (x .conn) (omega arith), z)
     go false q r h e =
         let l : x .conn < c = leb-false q in
@@ -91,16 +91,16 @@ subscribed-there c t (x ∷ xs) h e = go (leb c (x .conn)) refl (subscribed-ther
 abbrev pub Absent : ℕ → List Connection → Type 0
 Absent c ls = index (notLower c) ls < length ls → (getD ls (index (notLower c) ls) nobody) .conn ≡ c → ⊥
 
-pub subscribed-new : (c t : ℕ) (ls : List Connection) → Absent c ls → subscribed c t ls ≡ inserted (index (notLower c) ls) (waiting c t) ls
+pub subscribed-new : (c limit t : ℕ) (ls : List Connection) → Absent c ls → subscribed c limit t ls ≡ inserted (index (notLower c) ls) (waiting c limit t) ls
 unfolding subscribed inserted
-subscribed-new c t [] h = refl
-subscribed-new c t (x ∷ xs) h = go (leb c (x .conn)) refl (subscribed-new c t xs) h
+subscribed-new c limit t [] h = refl
+subscribed-new c limit t (x ∷ xs) h = go (leb c (x .conn)) refl (subscribed-new c limit t xs) h
   where
     go : (b : Bool) → leb c (x .conn) ≡ b
-        → (Absent c xs → subscribed c t xs ≡ inserted (index (notLower c) xs) (waiting c t) xs)
+        → (Absent c xs → subscribed c limit t xs ≡ inserted (index (notLower c) xs) (waiting c limit t) xs)
         → (cond b zero (suc (index (notLower c) xs)) < suc (length xs) → (getD (x ∷ xs) (cond b zero (suc (index (notLower c) xs))) nobody) .conn ≡ c → ⊥)
-        → cond (ltb c (x .conn)) (waiting c t ∷ x ∷ xs) (cond (eqb (x .conn) c) (waiting c t ∷ xs) (x ∷ subscribed c t xs))
-        ≡ inserted (cond b zero (suc (index (notLower c) xs))) (waiting c t) (x ∷ xs)
+        → cond (ltb c (x .conn)) (waiting c limit t ∷ x ∷ xs) (cond (eqb (x .conn) c) (waiting c limit t ∷ xs) (x ∷ subscribed c limit t xs))
+        ≡ inserted (cond b zero (suc (index (notLower c) xs))) (waiting c limit t) (x ∷ xs)
     go true q r h =
         let l : c ≤ x .conn = leb-true q in
         let n : x .conn ≡ c → ⊥ = h (suc-le-suc zero-le) in

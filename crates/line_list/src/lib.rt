@@ -1,14 +1,11 @@
 // The moves that change the list of lines of a store.
-use lines::Line;
 ghost use mathlib.Core.Path.{_≡_};
-ghost use mathlib.Core.List.{[]};
 ghost use mathlib.Core.Bool.{false, not, _&&_};
 ghost use Prim.Native.Nat.{_<_};
 ghost use lib.Dec.{leb, eqb};
 ghost use lib.ListN.{length};
 ghost use Rattle.rules.specs.Lists.{keep, any, index};
-ghost use Rattle.rules.specs.Lines as Rules;
-ghost use Rattle.rules.specs.Lines.{connAt, withLines, setLine, setConn, subscribed};
+ghost use Rattle.rules.specs.Lines.{connAt, withLines, setLine, subscribed};
 ghost use Rattle.rules.specs.Calls.{pendingAnew, eachLine};
 ghost use Rattle.rules.specs.Tick.{outOfLine};
 ghost use Rattle.words.specs.Words.{Says};
@@ -103,26 +100,18 @@ fn stands_at(s: &[u64], i: usize, conn: u64) -> bool
     false
 }
 
-// The i-th line becomes Waiting, empty, since t.
-fn replace(s: &mut [u64], i: usize, t: u64)
-    requires { ⌜ LineAt (now s) i ⌝ }
-    ensures { λ _. ⌜ Moved (now (s .entry)) (now (s .exit)) (setConn i (Rules.Waiting [] t) [] (marketOf (now (s .entry)))) ⌝ }
-{
-    store::conns::set_line(s, i, Line::waiting(t));
-    store::conns::drop_prints(s, i);
-}
-
-// The connection's line becomes Waiting, empty, since t; one that has no line gets one in its place by connection.
-pub fn subscribe(s: &mut [u64], conn: u64, t: u64)
+// The connection's line becomes Waiting, empty, since t, with this limit; one that has no line gets one in its place by connection.
+pub fn subscribe(s: &mut [u64], conn: u64, limit: u64, t: u64)
     requires { ⌜ Sound (now s) ⌝ }
     requires { ⌜ not (any (λ c. eqb (c .conn) conn) (marketOf (now s) .lines))
         && leb (marketOf (now s) .limits .L) (length (marketOf (now s) .lines)) ≡ false ⌝ }
-    ensures { λ _. ⌜ Moved (now (s .entry)) (now (s .exit)) (withLines (subscribed conn t (marketOf (now (s .entry)) .lines)) (marketOf (now (s .entry)))) ⌝ }
+    ensures { λ _. ⌜ Moved (now (s .entry)) (now (s .exit))
+        (withLines (subscribed conn limit t (marketOf (now (s .entry)) .lines)) (marketOf (now (s .entry)))) ⌝ }
 {
     let i = place_of(s, conn);
     if stands_at(s, i, conn) {
-        replace(s, i, t);
+        store::conns::put_waiting(s, i, conn, limit, t);
     } else {
-        store::areas::insert(s, i, conn, t);
+        store::areas::insert(s, i, conn, limit, t);
     }
 }

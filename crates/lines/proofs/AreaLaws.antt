@@ -12,7 +12,7 @@ use Rattle.rules.specs.Quantities.{Key, key, same}
 use Rattle.rules.specs.declared.Stamp.{Stamp}
 use Rattle.rules.specs.declared.Stamp.the-variants as Stamp
 use Rattle.rules.specs.Lines as Rules
-use Rattle.rules.specs.Lines.{waiting}
+use Rattle.rules.specs.Lines.{waiting, withLine, withHeld}
 use Rattle.rules.proofs.Tests.{ff≢tt}
 use Rattle.words.specs.Words.{part, back, tab}
 use Rattle.words.proofs.Parts.{Loan, getD-part, part-length, length-back, part-ext, part-same, part-after, back-below, back-above, back-in, back-start}
@@ -23,7 +23,7 @@ use Rattle.rules.specs.declared.Item.{Item}
 use Rattle.lines.specs.declared.Line.{Line}
 use Rattle.lines.specs.declared.Line.the-variants as Line
 use Rattle.lines.specs.Line.{lineOf, heldOf, holding}
-use Rattle.lines.specs.Area.{flag, stampIn, byKind, lineIn, flagOf, stampFlag, stampTime, lineWords, printIn, printsIn, itemWords, printWords, headLine, printCount, noPrint, connOf, withLine, withHeld}
+use Rattle.lines.specs.Area.{flag, stampIn, byKind, lineIn, flagOf, stampFlag, stampTime, lineWords, printIn, printsIn, itemWords, printWords, headLine, printCount, lineLimit, noPrint, connOf}
 
 -- ---- a time with its flag
 
@@ -101,7 +101,8 @@ module _ (h : ℕ) (w : List ℕ) (l : Line) (size : length w ≡ 7 * h + 64) wh
       let c : itemWords h v ≡ itemWords h w = part-after 1 9 (lineWords l) w loan 32 (4 * h + 64) (omega arith) (omega arith) in
       let d : printCount v ≡ printCount w = back-above 1 9 (lineWords l) w loan 9 (omega arith) in
       let e : printWords h v ≡ printWords h w = part-after 1 9 (lineWords l) w loan (4 * h + 64) (7 * h + 64) (omega arith) (omega arith) in
-      λ i. record { conn = a i; line = lineOf (b i) (c i); held = printsIn (d i) (e i) }
+      let f : lineLimit v ≡ lineLimit w = back-above 1 9 (lineWords l) w loan 10 (omega arith) in
+      λ i. record { conn = a i; limit = f i; line = lineOf (b i) (c i); held = printsIn (d i) (e i) }
 
 -- ---- held prints
 
@@ -150,7 +151,8 @@ module _ (h : ℕ) (w : List ℕ) (size : length w ≡ 7 * h + 64) where
       let c : itemWords h v ≡ itemWords h w = part-ext 32 (4 * h + 64) v w l (omega arith) (λ i p q. getD-set-other w 9 i n 0 (omega arith)) in
       let d : printCount v ≡ n = getD-set-same w 9 n 0 (omega arith) in
       let e : printWords h v ≡ printWords h w = part-ext (4 * h + 64) (7 * h + 64) v w l (omega arith) (λ i p q. getD-set-other w 9 i n 0 (omega arith)) in
-      λ i. record { conn = a i; line = lineOf (lineIn (b i)) (c i); held = printsIn (d i) (e i) }
+      let f : lineLimit v ≡ lineLimit w = getD-set-other w 9 10 n 0 (omega arith) in
+      λ i. record { conn = a i; limit = f i; line = lineOf (lineIn (b i)) (c i); held = printsIn (d i) (e i) }
 
   -- the words of the prints come back as ys
   pub prints-back-conn : (ys : List ℕ) → length ys ≡ 3 * h → (n : ℕ)
@@ -170,7 +172,8 @@ module _ (h : ℕ) (w : List ℕ) (size : length w ≡ 7 * h + 64) where
       let c : itemWords h v ≡ itemWords h w = part-ext 32 s v w lv (omega arith) (λ i p q. at i (λ r. omega arith) (omega arith)) in
       let d : printCount v ≡ n = getD-set-same u 9 n 0 (omega arith) in
       let p : printWords h v ≡ ys = part-ext s e v u (lv ∙ sym lu) (omega arith) (λ i x y. getD-set-other u 9 i n 0 (omega arith)) ∙ part-same s e ys w loan in
-      λ i. record { conn = a i; line = lineOf (lineIn (b i)) (c i); held = printsIn (d i) (p i) }
+      let f : lineLimit v ≡ lineLimit w = at 10 (λ p. omega arith) (omega arith) in
+      λ i. record { conn = a i; limit = f i; line = lineOf (lineIn (b i)) (c i); held = printsIn (d i) (p i) }
 
   -- an item more: the items' words come back as ys, and the line as l
   pub item-back-conn : (ys : List ℕ) → length ys ≡ 4 * h + 32 → (l : Line)
@@ -185,37 +188,44 @@ module _ (h : ℕ) (w : List ℕ) (size : length w ≡ 7 * h + 64) where
       let i : itemWords h u ≡ ys = part-same 32 e ys w loan in
       let d : printCount u ≡ printCount w = back-below 32 e ys w loan 9 (omega arith) in
       let p : printWords h u ≡ printWords h w = part-after 32 e ys w loan e (7 * h + 64) (omega arith) (omega arith) in
-      set-line-conn h u l lu ∙ (λ j. record { conn = a j; line = lineOf l (i j); held = printsIn (d j) (p j) })
+      let f : lineLimit u ≡ lineLimit w = back-below 32 e ys w loan 10 (omega arith) in
+      set-line-conn h u l lu ∙ (λ j. record { conn = a j; limit = f j; line = lineOf l (i j); held = printsIn (d j) (p j) })
 
--- ---- an area written anew: the connection, a line that is Waiting, empty, and no print
+-- ---- an area written anew: the connection, its limit, a line that is Waiting, empty, and no print
 
-module _ (v : List ℕ) (conn t : ℕ) (l : Line) (long : 32 ≤ length v) (e : (u : List ℕ) → lineOf l u ≡ Rules.Waiting [] t) where
+pub named-size : (v : List ℕ) (conn limit : ℕ) → length (set (set v 0 conn) 10 limit) ≡ length v
+named-size v conn limit = length-set (set v 0 conn) 10 limit ∙ length-set v 0 conn
+
+module _ (v : List ℕ) (conn limit t : ℕ) (l : Line) (long : 32 ≤ length v) (e : (u : List ℕ) → lineOf l u ≡ Rules.Waiting [] t) where
   u : List ℕ
-  u = set v 0 conn
+  u = set (set v 0 conn) 10 limit
 
   line-loan : Loan 1 9 (lineWords l) u
   unfolding u
-  line-loan = record { kept = words-of l; start = omega arith; inside = omega (arith, length-set v 0 conn) }
+  line-loan = record { kept = words-of l; start = omega arith; inside = omega (arith, named-size v conn limit) }
 
   ys : List ℕ
   ys = back 1 9 (lineWords l) u
 
   size : length ys ≡ length v
   unfolding u ys
-  size = length-back 1 9 (lineWords l) u line-loan ∙ length-set v 0 conn
+  size = length-back 1 9 (lineWords l) u line-loan ∙ named-size v conn limit
 
-  pub waiting-done : (x z : List ℕ) → x ≡ back 1 9 (lineWords l) (set v 0 conn) → z ≡ set x 9 0 → (h : ℕ) → connOf h z ≡ waiting conn t
+  pub waiting-done : (x z : List ℕ) → x ≡ back 1 9 (lineWords l) (set (set v 0 conn) 10 limit) → z ≡ set x 9 0 → (h : ℕ) → connOf h z ≡ waiting conn limit t
   unfolding connOf printsIn u ys
   waiting-done x z p q h =
       let w = set ys 9 0 in
       let s : z ≡ w = q ∙ ap (λ (y : List ℕ). set y 9 0) p in
       let other : (j : ℕ) → (j ≡ 9 → ⊥) → getD w j 0 ≡ getD ys j 0 = λ j n. getD-set-other ys 9 j 0 0 n in
-      let a : getD w 0 0 ≡ conn = other 0 (λ n. omega arith) ∙ back-below 1 9 (lineWords l) u line-loan 0 (omega arith) ∙ getD-set-same v 0 conn 0 (omega arith) in
+      let a : getD w 0 0 ≡ conn = other 0 (λ n. omega arith) ∙ back-below 1 9 (lineWords l) u line-loan 0 (omega arith)
+      ∙ getD-set-other (set v 0 conn) 10 0 limit 0 (omega arith) ∙ getD-set-same v 0 conn 0 (omega arith) in
       let b : part 1 9 w ≡ lineWords l =
       part-ext 1 9 w ys (length-set ys 9 0) (omega (arith, size)) (λ j m n. other j (λ k. omega arith)) ∙ part-same 1 9 (lineWords l) u line-loan in
       let c : lineOf (headLine w) (itemWords h w) ≡ Rules.Waiting [] t = ap (λ (y : Line). lineOf y (itemWords h w)) (ap lineIn b ∙ line-back l) ∙ e (itemWords h w) in
       let d : printCount w ≡ 0 = getD-set-same ys 9 0 0 (omega (arith, size)) in
-      ap (connOf h) s ∙ (λ j. record { conn = a j; line = c j; held = printsIn (d j) (printWords h w) })
+      let f : lineLimit w ≡ limit = other 10 (λ n. omega arith) ∙ back-above 1 9 (lineWords l) u line-loan 10 (omega arith)
+      ∙ getD-set-same (set v 0 conn) 10 limit 0 (omega (arith, length-set v 0 conn)) in
+      ap (connOf h) s ∙ (λ j. record { conn = a j; limit = f j; line = c j; held = printsIn (d j) (printWords h w) })
 
 pub hold-item-ready : (h : ℕ) (w : List ℕ) → length w ≡ 7 * h + 64 → (l : Line) → l ≡ headLine w → heldOf (headLine w) < h + 8 → (held : ℕ) → held ≡ heldOf l
     → (item : Item) → kindOf item < 2 ^ 64 → Room (part 32 (4 * h + 64) w) held item

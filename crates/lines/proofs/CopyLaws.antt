@@ -15,7 +15,7 @@ use Rattle.place.proofs.Items.{items-ext}
 use Rattle.lines.specs.declared.Line.{Line}
 use Rattle.lines.specs.declared.Line.the-variants as Line
 use Rattle.lines.specs.Line.{lineOf, heldOf}
-use Rattle.lines.specs.Area.{lineIn, printIn, printsIn, itemWords, printWords, headLine, printCount, connOf, areaAt, TwoAreas, Enough, AreaCopied}
+use Rattle.lines.specs.Area.{lineIn, printIn, printsIn, itemWords, printWords, headLine, printCount, lineLimit, connOf, areaAt, TwoAreas, Enough, AreaCopied}
 
 -- as many words as the items are
 pub items-enough : (h held : ℕ) (w : List ℕ) (l : Line) → l ≡ headLine w → held ≡ heldOf l → (r : ℕ) → 4 * held ≤ r → r ≤ 4 * h + 32
@@ -51,7 +51,7 @@ part-reads a e n x y hx hy h j l =
 -- x and y are areas with the same words where y says something
 record Alike (h : ℕ) (x y : List ℕ) : Type 0 where
   pub sizes : (length x ≡ 7 * h + 64) × (length y ≡ 7 * h + 64)
-  pub head : (j : ℕ) → j < 10 → getD x j 0 ≡ getD y j 0
+  pub head : (j : ℕ) → j < 11 → getD x j 0 ≡ getD y j 0
   pub items : (j : ℕ) → j < 4 * heldOf (headLine y) → 32 + j < 4 * h + 64 → getD x (32 + j) 0 ≡ getD y (32 + j) 0
   pub prints : (j : ℕ) → j < 3 * printCount y → 4 * h + 64 + j < 7 * h + 64 → getD x (4 * h + 64 + j) 0 ≡ getD y (4 * h + 64 + j) 0
 
@@ -70,7 +70,8 @@ alike-conn h x y s =
     ap (λ (n : ℕ). printsIn n (printWords h x)) d
     ∙ prints-ext (printCount y) (printWords h x) (printWords h y)
     (part-reads (4 * h + 64) (7 * h + 64) (3 * printCount y) x y (omega arith) (omega arith) (s .prints)) in
-    λ i. record { conn = a i; line = c i; held = e i }
+    let f : lineLimit x ≡ lineLimit y = s .head 10 (omega arith) in
+    λ i. record { conn = a i; limit = f i; line = c i; held = e i }
 
 -- ---- an area copied in three pieces: k words of its head, n of its items, m of its prints
 
@@ -81,7 +82,7 @@ piece-ready h from to w size t s o n f g l p q =
     (⊎-elim (λ a. inl (omega arith)) (λ a. inr (omega arith)) (t .apart), (omega (arith, t .source), omega (arith, t .target)))
 
 module _ (h from to : ℕ) (w w₁ w₂ w₃ : List ℕ) (k n m : ℕ) (t : TwoAreas h from to w)
-    (k₀ : 10 ≤ k) (k₁ : k ≤ 32)
+    (k₀ : 11 ≤ k) (k₁ : k ≤ 32)
     (items : Enough (4 * heldOf (headLine (areaAt h from w))) (4 * h + 32) n) (prints : Enough (3 * printCount (areaAt h from w)) (3 * h) m)
     (c₁ : Copied from to w w₁ k) (c₂ : Copied (from + 32) (to + 32) w₁ w₂ n) (c₃ : Copied (from + (4 * h + 64)) (to + (4 * h + 64)) w₂ w₃ m) where
   -- what is copied into the area at `to` leaves the one at `from`
@@ -89,7 +90,7 @@ module _ (h from to : ℕ) (w w₁ w₂ w₃ : List ℕ) (k n m : ℕ) (t : TwoA
       → (j : ℕ) → j < 7 * h + 64 → getD v (from + j) 0 ≡ getD u (from + j) 0
   stays u v f g l a b c j i = ⊎-elim (λ p. c .below (from + j) (omega arith)) (λ p. c .above (from + j) (omega arith)) (t .apart)
 
-  copied-head : (j : ℕ) → j < 10 → getD w₃ (to + j) 0 ≡ getD w (from + j) 0
+  copied-head : (j : ℕ) → j < 11 → getD w₃ (to + j) 0 ≡ getD w (from + j) 0
   copied-head j l = c₃ .below (to + j) (omega arith) ∙ c₂ .below (to + j) (omega arith) ∙ c₁ .done j (omega arith)
 
   copied-items : (j : ℕ) → j < n → getD w₃ (to + (32 + j)) 0 ≡ getD w (from + (32 + j)) 0

@@ -20,7 +20,7 @@ use Rattle.place.proofs.Items.{items-length, items-at, items-each}
 use Rattle.lines.specs.declared.Line.{Line}
 use Rattle.lines.specs.declared.Line.the-variants as Line
 use Rattle.lines.specs.Line.{lineOf}
-use Rattle.lines.specs.Area.{headLine, itemWords, printCount, connOf}
+use Rattle.lines.specs.Area.{headLine, itemWords, printCount, lineLimit, connOf}
 use Rattle.lines.specs.AreaSound.{LineFits, AreaSound}
 
 -- an item's token is known just where its kind word is at most 2
@@ -49,8 +49,8 @@ pub items-fit : (h n : ℕ) (w : List ℕ) (r : Bool) → Says r ((n ≤ h + 8) 
 items-fit h n w r s = subst (λ k. Says r ((k ≤ h + 8) × Each Known (itemsIn n w))) (sym (items-length n w)) s
 
 -- what the area's test says, from its line's
-pub area-says : (h e : ℕ) (w : List ℕ) (l : Line) (r : Bool) → l ≡ headLine w → getD w 1 0 ≤ 3 → printCount w ≤ h
+pub area-says : (h e : ℕ) (w : List ℕ) (l : Line) (r : Bool) → l ≡ headLine w → getD w 1 0 ≤ 3 → printCount w ≤ h → 1 ≤ lineLimit w → lineLimit w ≤ h
     → Says r (LineFits h e (lineOf l (itemWords h w))) → Says r (AreaSound h e w)
 unfolding connOf
-area-says h e w l true q k p s = record { kind = k; prints = p; line = subst (λ x. LineFits h e (lineOf x (itemWords h w))) q s }
-area-says h e w l false q k p s = λ a. s (subst (λ x. LineFits h e (lineOf x (itemWords h w))) (sym q) (a .line))
+area-says h e w l true q k p a b s = record { kind = k; prints = p; limit = a; within = b; line = subst (λ x. LineFits h e (lineOf x (itemWords h w))) q s }
+area-says h e w l false q k p a b s = λ z. s (subst (λ x. LineFits h e (lineOf x (itemWords h w))) (sym q) (z .line))

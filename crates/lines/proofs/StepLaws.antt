@@ -13,7 +13,7 @@ use Rattle.rules.specs.declared.Stamp.{Stamp}
 use Rattle.rules.specs.declared.Stamp.the-variants as Stamp
 use Rattle.rules.specs.Quantities.{Key, noKey, same, age, alignTimeout, maxNumber}
 use Rattle.rules.specs.Log.{keys, end}
-use Rattle.rules.specs.Lines.{Line, Waiting, Pending, InLine, Failed, Market, isPending, itemCount, setLine}
+use Rattle.rules.specs.Lines.{Line, Waiting, Pending, InLine, Failed, Market, connAt, isPending, itemCount, setLine}
 use Rattle.rules.specs.Entering.{Work}
 use Rattle.rules.specs.Calls.{apply, duplicate, held, ignored, diverged, failed, Outcome, just, refuse, dueFor, dueEnds, fullNumbers, snapshot, bookEvent}
 use Rattle.rules.specs.Tick.{timeOut, turn}
@@ -43,10 +43,10 @@ module _ (i : ℕ) (k : Key) (msg now : ℕ) (m : Market) (n : ℕ) (a b : Bool)
 pub book-event-steps : BookEventSteps
 unfolding bookEvent
 book-event-steps i k msg now m (Waiting is since) s =
-    through (afterEvent i k msg now m) (leb (m .limits .H) (length is)) (Failed, word failed 0 0)
+    through (afterEvent i k msg now m) (leb ((connAt i m) .limit) (length is)) (Failed, word failed 0 0)
     (Waiting (is ++ (Item.Event k msg ∷ [])) since, word held 0 0)
 book-event-steps i k msg now m (Pending is at since) s =
-    through (afterEvent i k msg now m) (leb (m .limits .H) (length is)) (Failed, word failed 0 0)
+    through (afterEvent i k msg now m) (leb ((connAt i m) .limit) (length is)) (Failed, word failed 0 0)
     (Pending (is ++ (Item.Event k msg ∷ [])) at since, word held 0 0)
 book-event-steps i k msg now m (InLine n a b) s =
     let f : Line × Said → Outcome = afterEvent i k msg now m in

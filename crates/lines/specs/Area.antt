@@ -1,5 +1,5 @@
--- The reading of a line's area: 7h + 64 words. Word 0 is the connection, words 1 to 8 the line, word 9 how many prints are held;
--- from word 32 on h + 8 items of four words, and behind them h held prints of three words (key, key, message).
+-- The reading of a line's area: 7h + 64 words. Word 0 is the connection, words 1 to 8 the line, word 9 how many prints are held, word 10
+-- the line's limit (request 5); from word 32 on h + 8 items of four words, and behind them h held prints of three words (key, key, message).
 use mathlib.Core.Path.{_≡_}
 use mathlib.Core.List.{List, [], _∷_}
 use mathlib.Core.Bool.{Bool, true, false}
@@ -82,16 +82,18 @@ headLine w = lineIn (part 1 9 w)
 abbrev pub printCount : List ℕ → ℕ
 printCount w = getD w 9 0
 
+abbrev pub lineLimit : List ℕ → ℕ
+lineLimit w = getD w 10 0
+
 -- what an area says of its connection
 unfoldable pub connOf : ℕ → List ℕ → Connection
-connOf h w = record { conn = getD w 0 0; line = lineOf (headLine w) (itemWords h w); held = printsIn (printCount w) (printWords h w) }
-
--- a connection with another line, or with other held prints
-abbrev pub withLine : Rules.Line → Connection → Connection
-withLine l c = record { conn = c .conn; line = l; held = c .held }
-
-abbrev pub withHeld : List (Key × ℕ) → Connection → Connection
-withHeld ps c = record { conn = c .conn; line = c .line; held = ps }
+connOf h w =
+    record {
+      conn = getD w 0 0;
+      limit = lineLimit w;
+      line = lineOf (headLine w) (itemWords h w);
+      held = printsIn (printCount w) (printWords h w);
+    }
 
 -- an area and what it counts fit each other
 pub record Fit (h : ℕ) (w : List ℕ) : Type 0 where

@@ -90,17 +90,17 @@ copyStep alike n a b = cond alike (Rules.InLine (suc n) a b, word duplicate 0 0)
 abbrev pub endStep : ℕ → Bool → Bool → Rules.Line × Said
 endStep n a b = cond (leb maxNumber n) (Rules.InLine n a b, number 9) (Rules.InLine (suc n) a b, word apply 1 0)
 
--- a book event of key k to a line, over a log of keys ks from base, with held limit h: one that is not in line holds it, or fails
--- where it holds h items or more; one in line steps on
-abbrev pub eventStep : (h base : ℕ) (ks : List Key) → Key → ℕ → Rules.Line → Rules.Line × Said
-eventStep h base ks k msg (Rules.Waiting is since) =
-    cond (leb h (length is)) (Rules.Failed, word failed 0 0) (Rules.Waiting (is ++ (Item.Event k msg ∷ [])) since, word held 0 0)
-eventStep h base ks k msg (Rules.Pending is at since) =
-    cond (leb h (length is)) (Rules.Failed, word failed 0 0) (Rules.Pending (is ++ (Item.Event k msg ∷ [])) at since, word held 0 0)
-eventStep h base ks k msg (Rules.InLine n a b) =
+-- a book event of key k to a line with this limit, over a log of keys ks from base: one that is not in line holds it, or fails where it
+-- holds its limit of items or more; one in line steps on
+abbrev pub eventStep : (limit base : ℕ) (ks : List Key) → Key → ℕ → Rules.Line → Rules.Line × Said
+eventStep limit base ks k msg (Rules.Waiting is since) =
+    cond (leb limit (length is)) (Rules.Failed, word failed 0 0) (Rules.Waiting (is ++ (Item.Event k msg ∷ [])) since, word held 0 0)
+eventStep limit base ks k msg (Rules.Pending is at since) =
+    cond (leb limit (length is)) (Rules.Failed, word failed 0 0) (Rules.Pending (is ++ (Item.Event k msg ∷ [])) at since, word held 0 0)
+eventStep limit base ks k msg (Rules.InLine n a b) =
     cond (ltb n base) (Rules.Failed, word failed 0 0)
     (cond (ltb n (base + length ks)) (copyStep (same (getD ks (n - base) noKey) k) n a b) (endStep n a b))
-eventStep h base ks k msg Rules.Failed = (Rules.Failed, word ignored 0 0)
+eventStep limit base ks k msg Rules.Failed = (Rules.Failed, word ignored 0 0)
 
 -- a snapshot of token t: due ends and it is put out; a Waiting line holds it, while its area of h + 8 items has room; else ignored
 abbrev pub snapshotStep : (h t msg : ℕ) → Rules.Line → Rules.Line × Said

@@ -46,7 +46,7 @@ afterEvent i k msg now m (l, word rebuild x y) = just rebuild m
 
 abbrev pub BookEventSteps : Type 0
 BookEventSteps = (i : ℕ) (k : Key) (msg now : ℕ) (m : Market) (l : Line) → LineSound (m .limits) (end (m .log)) l
-    → bookEvent i k msg now m l ≡ afterEvent i k msg now m (eventStep (m .limits .H) (m .log .base) (keys (m .log)) k msg l)
+    → bookEvent i k msg now m l ≡ afterEvent i k msg now m (eventStep ((connAt i m) .limit) (m .log .base) (keys (m .log)) k msg l)
 
 -- the i-th line holds one snapshot more and is l now: with nobody in line it takes over; with both tokens it is pending and tries to line up
 abbrev pub heldSnapshot : ℕ → ℕ → Market → Line → Outcome

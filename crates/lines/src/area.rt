@@ -8,14 +8,14 @@ ghost use mathlib.Core.List.{[], _∷_, _++_};
 ghost use Prim.Native.Nat.{ℕ, _+_, _*_, _≤_, _<_, _^_};
 ghost use lib.ListN.{length, getD, set};
 ghost use Rattle.rules.specs.Quantities.{same, key};
-ghost use Rattle.rules.specs.Lines.{waiting};
+ghost use Rattle.rules.specs.Lines.{waiting, withLine, withHeld};
 ghost use Rattle.rules.specs.Lists.{any, Each};
 ghost use Rattle.rules.specs.Sound.{Known};
 ghost use Rattle.words.specs.Words.{back, Says};
 ghost use Rattle.place.specs.Items.{kindOf, itemsIn};
 ghost use Rattle.lines.specs.Line.{lineOf, heldOf, holding};
 ghost use Rattle.lines.specs.Area.{flagOf, lineIn, lineWords, headLine, printIn, printsIn, itemWords, printCount, noPrint};
-ghost use Rattle.lines.specs.Area.{connOf, withLine, withHeld, Fit, TwoAreas, Enough, AreaCopied};
+ghost use Rattle.lines.specs.Area.{connOf, Fit, TwoAreas, Enough, AreaCopied};
 ghost use Rattle.lines.specs.AreaSound.{LineFits, AreaSound};
 
 // An area's connection.
@@ -24,6 +24,14 @@ pub fn conn(area: &[u64]) -> u64
     ensures { λ r. ⌜ ((h : ℕ) → r ≡ connOf h (now (area .entry)) .conn) ⌝ }
 {
     area[0]
+}
+
+// An area's limit: with so many items or prints its line fails.
+pub fn limit(area: &[u64]) -> usize
+    requires { ⌜ 32 ≤ length (now area) ⌝ }
+    ensures { λ r. ⌜ ((h : ℕ) → r ≡ connOf h (now (area .entry)) .limit) ⌝ }
+{
+    area[10] as usize
 }
 
 fn flag_of(b: bool) -> u64
@@ -237,12 +245,13 @@ pub fn drop_prints(area: &mut [u64], h: usize)
     set_prints(area, 0);
 }
 
-// Writes an area anew: Waiting, empty, since t.
-pub fn put_waiting(area: &mut [u64], conn: u64, t: u64)
+// Writes an area anew: Waiting, empty, since t, with this limit.
+pub fn put_waiting(area: &mut [u64], conn: u64, limit: u64, t: u64)
     requires { ⌜ 32 ≤ length (now area) ⌝ }
-    ensures { λ r. ⌜ ((h : ℕ) → connOf h (now (area .exit)) ≡ waiting conn t) ⌝ }
+    ensures { λ r. ⌜ ((h : ℕ) → connOf h (now (area .exit)) ≡ waiting conn limit t) ⌝ }
 {
     area[0] = conn;
+    area[10] = limit;
     set_line(area, Line::waiting(t));
     set_prints(area, 0);
 }
@@ -279,7 +288,7 @@ pub fn copy(s: &mut [u64], h: usize, from: usize, to: usize)
     let e = from + (7 * h + 64);
     let items = item_words_used(&s[from..e], h);
     let prints = print_words_used(&s[from..e], h);
-    words::copy(s, from, to, 10);
+    words::copy(s, from, to, 11);
     words::copy(s, from + 32, to + 32, items);
     let p = 4 * h + 64;
     words::copy(s, from + p, to + p, prints);
@@ -324,7 +333,14 @@ pub fn sound(area: &[u64], h: usize, end: u64) -> bool
     if 3 < area[1] {
         return false;
     }
+    let limit = area[10] as usize;
     if h < area[9] as usize {
+        return false;
+    }
+    if limit == 0 {
+        return false;
+    }
+    if h < limit {
         return false;
     }
     let e = 4 * h + 64;

@@ -22,19 +22,19 @@ ghost use Rattle.lines.specs.Line.{lineOf, Steps, Ages, copyStep, endSte
 const ALIGN_TIMEOUT: u64 = 10_000;
 
 impl Line {
-    // A book event of this key, over a log whose keys lie in `keys`, a ring of g; h: how many items make it fail.
-    pub fn event(self, keys: &[u64], g: usize, head: Head, h: usize, key: EventKey) -> Stepped
+    // A book event of this key, over a log whose keys lie in `keys`, a ring of g; limit: how many items make it fail.
+    pub fn event(self, keys: &[u64], g: usize, head: Head, limit: usize, key: EventKey) -> Stepped
         requires { ⌜ (Ring g (head .front) (head .count) (now keys)) × (head .base + head .count < 2 ^ 64) ⌝ }
         ensures { λ r. ⌜ ((w : List ℕ) (msg : ℕ)
-            → Steps r (eventStep h (head .base) (keysOf g (head .front) (head .count) (now (keys .entry))) key msg (lineOf self w))) ⌝ }
+            → Steps r (eventStep limit (head .base) (keysOf g (head .front) (head .count) (now (keys .entry))) key msg (lineOf self w))) ⌝ }
     {
         match self {
-            Line::Waiting { items, since } => hold_waiting(items, since, h),
+            Line::Waiting { items, since } => hold_waiting(items, since, limit),
             Line::Pending {
                 items,
                 snapshot,
                 since,
-            } => hold_pending(items, snapshot, since, h),
+            } => hold_pending(items, snapshot, since, limit),
             Line::InLine { next, due0, due1 } => advance(next, due0, due1, keys, g, head, key),
             Line::Failed => Stepped {
                 line: self,
@@ -113,11 +113,11 @@ impl Line {
 }
 
 // A book event to a Waiting line.
-fn hold_waiting(items: usize, since: u64, h: usize) -> Stepped
+fn hold_waiting(items: usize, since: u64, limit: usize) -> Stepped
     ensures { λ r. ⌜ ((base : ℕ) (ks : List Key) (k : Key) (w : List ℕ) (msg : ℕ)
-        → Steps r (eventStep h base ks k msg (Rules.Waiting (itemsIn items w) since))) ⌝ }
+        → Steps r (eventStep limit base ks k msg (Rules.Waiting (itemsIn items w) since))) ⌝ }
 {
-    if h <= items {
+    if limit <= items {
         return Stepped {
             line: Line::Failed,
             step: Step::Failed,
@@ -133,11 +133,11 @@ fn hold_waiting(items: usize, since: u64, h: usize) -> Stepped
 }
 
 // A book event to a pending line.
-fn hold_pending(held: usize, snapshot: Stamp, since: u64, h: usize) -> Stepped
+fn hold_pending(held: usize, snapshot: Stamp, since: u64, limit: usize) -> Stepped
     ensures { λ r. ⌜ ((base : ℕ) (ks : List Key) (k : Key) (w : List ℕ) (msg : ℕ)
-        → Steps r (eventStep h base ks k msg (Rules.Pending (itemsIn held w) snapshot since))) ⌝ }
+        → Steps r (eventStep limit base ks k msg (Rules.Pending (itemsIn held w) snapshot since))) ⌝ }
 {
-    if h <= held {
+    if limit <= held {
         return Stepped {
             line: Line::Failed,
             step: Step::Failed,
@@ -164,8 +164,8 @@ fn advance(
     key: EventKey,
 ) -> Stepped
     requires { ⌜ (Ring g (head .front) (head .count) (now keys)) × (head .base + head .count < 2 ^ 64) ⌝ }
-    ensures { λ r. ⌜ ((h msg : ℕ)
-        → Steps r (eventStep h (head .base) (keysOf g (head .front) (head .count) (now (keys .entry))) key msg (Rules.InLine next due0 due1))) ⌝ }
+    ensures { λ r. ⌜ ((limit msg : ℕ)
+        → Steps r (eventStep limit (head .base) (keysOf g (head .front) (head .count) (now (keys .entry))) key msg (Rules.InLine next due0 due1))) ⌝ }
 {
     let base = head.base;
     let count = head.count;

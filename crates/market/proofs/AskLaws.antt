@@ -10,6 +10,7 @@ use borrow.Author.Tests.{leb-true, leb-false}
 use Rattle.rules.specs.declared.Item.{Item}
 use Rattle.rules.specs.declared.Limits.{Limits}
 use Rattle.rules.specs.Lists.{any, index}
+use Rattle.rules.specs.Quantities.{within}
 use Rattle.rules.specs.Log.{clear}
 use Rattle.rules.specs.Prints.{removeCounts}
 use Rattle.rules.specs.Lines.{Connection, Market, nobody, messageOf, isPending, itemsOf, lineOf, connAt, withLog, withPrints, withLines, subscribed}
@@ -63,6 +64,15 @@ missing t l = go (leb (length l) (index t l)) refl
 
 -- ---- subscribe
 
+-- a limit out of range is refused
+module _ (w : List ℕ) {l : Limits} (q : l ≡ limitsOf w) (limit : ℕ) where
+  within-said : (leb 1 limit && leb limit (l .H)) ≡ within 1 (marketOf w .limits .H) limit
+  within-said = ap (λ (x : Limits). within 1 (x .H) limit) (q ∙ sym (market-limits w))
+
+  pub subscribe-unlimited : (c t : ℕ) → (leb 1 limit && leb limit (l .H)) ≡ false → Answers (subscribe c limit t (marketOf w)) (alone w) (number 18) (alone w)
+  unfolding subscribe
+  subscribe-unlimited c t f = refuses 18 (alone w) (rw (sym within-said ∙ f) refl)
+
 module _ (w : List ℕ) (c : ℕ) {i n : ℕ} {l : Limits} (e : i ≡ lineOf c (marketOf w)) (p : n ≡ lineCount w) (q : l ≡ limitsOf w) where
   -- no line, and no room for one
   full-said : (leb n i && leb (l .L) n) ≡ (not (any (λ s. eqb (s .conn) c) (marketOf w .lines)) && leb (marketOf w .limits .L) (length (marketOf w .lines)))
@@ -74,10 +84,11 @@ module _ (w : List ℕ) (c : ℕ) {i n : ℕ} {l : Limits} (e : i ≡ lineOf c (
       let f : leb n i ≡ not (any t ls) = (λ x. leb (a x) (e x)) ∙ missing t ls in
       λ x. f x && leb (b x .L) (a x)
 
-  -- it is refused, or done
-  pub subscribe-full : (t : ℕ) → (leb n i && leb (l .L) n) ≡ true → Answers (subscribe c t (marketOf w)) (alone w) (number 4) (alone w)
+  -- a connection more than there is room for is refused, or it is done
+  pub subscribe-full : (limit t : ℕ) → (leb 1 limit && leb limit (l .H)) ≡ true → (leb n i && leb (l .L) n) ≡ true
+      → Answers (subscribe c limit t (marketOf w)) (alone w) (number 4) (alone w)
   unfolding subscribe
-  subscribe-full t f = refuses 4 (alone w) (rw (sym full-said ∙ f) refl)
+  subscribe-full limit t g f = refuses 4 (alone w) (rw (sym (within-said w q limit) ∙ g, sym full-said ∙ f) refl)
 
   module _ (v : List ℕ) (s : Sound w) (f : (leb n i && leb (l .L) n) ≡ false)
       (d : Moved w v (withPrints (removeCounts c (marketOf w .prints)) (marketOf w))) where
@@ -90,13 +101,14 @@ module _ (w : List ℕ) (c : ℕ) {i n : ℕ} {l : Limits} (e : i ≡ lineOf c (
           (sym full-said ∙ f),
     )
 
-    pub subscribe-done : (x : List ℕ) (t : ℕ) → length x ≡ length w → Moved v x (withLines (subscribed c t (marketOf v .lines)) (marketOf v))
-        → Answers (subscribe c t (marketOf w)) (alone w) (word done 0 0) (alone x)
+    pub subscribe-done : (limit : ℕ) → (leb 1 limit && leb limit (l .H)) ≡ true → (x : List ℕ) (t : ℕ) → length x ≡ length w
+        → Moved v x (withLines (subscribed c limit t (marketOf v .lines)) (marketOf v))
+        → Answers (subscribe c limit t (marketOf w)) (alone w) (word done 0 0) (alone x)
     unfolding subscribe
-    subscribe-done x t z e =
-        justly done s z (subst (λ (m : Market). Moved w x (withLines (subscribed c t (m .lines)) m)) (d .market) (moved-on d e))
-        (rw (sym full-said ∙ f) refl)
-        (safe-as w (subscribe c t (marketOf w)) (subscribe-safe c t (marketOf w) (s .market)))
+    subscribe-done limit g x t z e =
+        justly done s z (subst (λ (m : Market). Moved w x (withLines (subscribed c limit t (m .lines)) m)) (d .market) (moved-on d e))
+        (rw (sym (within-said w q limit) ∙ g, sym full-said ∙ f) refl)
+        (safe-as w (subscribe c limit t (marketOf w)) (subscribe-safe c limit t (marketOf w) (s .market)))
 
 -- ---- reset
 

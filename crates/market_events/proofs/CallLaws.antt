@@ -64,7 +64,7 @@ module _ {w : List ℕ} {i : ℕ} (key : Key) (msg t : ℕ) (s : Sound w) (h : i
         → Answers (eventAt i key msg t (marketOf w)) (lent w v) (ofStep (stepped .step)) (lent w₁ v)
     book-sets {v} {w₁} f q l d =
         let m = marketOf w in
-        let empty = event-empties (m .limits .H) (m .log .base) (keys (m .log)) key msg ((connAt i m) .line) (λ y. f (sym told ∙ e .answer ∙ y)) in
+        let empty = event-empties ((connAt i m) .limit) (m .log .base) (keys (m .log)) key msg ((connAt i m) .line) (λ y. f (sym told ∙ e .answer ∙ y)) in
         let line : lineOf (stepped .line) (itemsAt w i) ≡ stepAt i key msg m .0 = stands-empty (e .line) empty (itemsAt w i) in
         rw told
         (justly x s l (subst (λ (y : Rules.Line). Moved w w₁ (setLine i y m)) line d) (book-told ∙ q) (book-sound key msg t s h))

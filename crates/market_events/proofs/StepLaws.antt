@@ -26,7 +26,8 @@ use Rattle.lines.specs.Area.{headLine}
 use Rattle.lines.proofs.HeldLaws.{Holds, Leads, refuted, event-holds, event-leads}
 use Rattle.store.specs.Store.{limitsOf, headOf, lineCount, keyWords, lineWordsAt, marketOf, Sound}
 use Rattle.store.specs.ConnMoves.{itemsAt}
-use Rattle.store.proofs.MarketLaws.{market-limits, market-base, market-keys}
+use Rattle.store.proofs.MarketLaws.{market-base, market-keys}
+use Rattle.store.proofs.ConnLaws.{limit-sound}
 use Rattle.store.proofs.EntryLaws.{counts, ring}
 use Rattle.market_snapshots.proofs.SnapshotLaws.{line-value, line-sound}
 use Rattle.market_events.specs.Events.{stepAt}
@@ -38,12 +39,12 @@ Last n (Rules.Waiting is since) = ⊥
 Last n (Rules.Pending is at since) = ⊥
 Last n Rules.Failed = ⊥
 
-module _ (h base : ℕ) (ks : List Key) (k : Key) (msg n : ℕ) where
-  event-ends : (l : Rules.Line) → eventStep h base ks k msg l .1 ≡ number n → Last n l
+module _ (limit base : ℕ) (ks : List Key) (k : Key) (msg n : ℕ) where
+  event-ends : (l : Rules.Line) → eventStep limit base ks k msg l .1 ≡ number n → Last n l
   event-ends (Rules.Waiting is since) =
-      by-cond (λ (x : Rules.Line × Said). x .1 ≡ number n → ⊥) (leb h (length is)) (λ e q. refuted (cc)) (λ e q. refuted (cc))
+      by-cond (λ (x : Rules.Line × Said). x .1 ≡ number n → ⊥) (leb limit (length is)) (λ e q. refuted (cc)) (λ e q. refuted (cc))
   event-ends (Rules.Pending is at since) =
-      by-cond (λ (x : Rules.Line × Said). x .1 ≡ number n → ⊥) (leb h (length is)) (λ e q. refuted (cc)) (λ e q. refuted (cc))
+      by-cond (λ (x : Rules.Line × Said). x .1 ≡ number n → ⊥) (leb limit (length is)) (λ e q. refuted (cc)) (λ e q. refuted (cc))
   event-ends (Rules.InLine y a b) =
       let P : Rules.Line × Said → Type 0 = λ x. x .1 ≡ number n → (n ≡ 9) × (maxNumber ≤ y) in
       by-cond P (ltb y base) (λ e q. refuted (cc))
@@ -58,32 +59,31 @@ module _ {w : List ℕ} {i : ℕ} (s : Sound w) (h : i < lineCount w) (key : Key
   step-asks x head ks g p q = rw (g, p, q) (ring s, counts s .numbers)
 
   pub step-said : (x : Limits) (head : Head) (ks : List ℕ) (n : ℕ) (self : Line) (r : Stepped)
-      → x ≡ limitsOf w → head ≡ headOf w → ks ≡ keyWords w → n ≡ limitsOf w .H
+      → x ≡ limitsOf w → head ≡ headOf w → ks ≡ keyWords w → n ≡ (connAt i (marketOf w)) .limit
       → self ≡ headLine (lineWordsAt w i)
       → ((v : List ℕ) (msg : ℕ) → Steps r (eventStep n (head .base) (keysOf (x .G) (head .front) (head .count) ks) key msg (lineOf self v))) → (msg : ℕ)
       → Steps r (stepAt i key msg (marketOf w))
   step-said x head ks n self r g p q m e f msg =
-      let limit : n ≡ marketOf w .limits .H = m ∙ ap (λ (l : Limits). l .H) (sym (market-limits w)) in
       let base : head .base ≡ marketOf w .log .base = ap (λ (x : Head). x .base) p ∙ sym (market-base w) in
       let keyed : keysOf (x .G) (head .front) (head .count) ks ≡ keys (marketOf w .log) =
       (λ j. keysOf (g j .G) (p j .front) (p j .count) (q j)) ∙ sym (market-keys w (counts s .entries) (s .sized .front)) in
       let line : lineOf self (itemsAt w i) ≡ (connAt i (marketOf w)) .line = line-value s h self e in
-      subst (Steps r) (λ j. eventStep (limit j) (base j) (keyed j) key msg (line j)) (f (itemsAt w i) msg)
+      subst (Steps r) (λ j. eventStep (m j) (base j) (keyed j) key msg (line j)) (f (itemsAt w i) msg)
 
   pub step-holds : (msg : ℕ) → stepAt i key msg (marketOf w) .1 ≡ word held 0 0
       → Holds (areaItems (limitsOf w)) (Item.Event key msg) ((connAt i (marketOf w)) .line) (stepAt i key msg (marketOf w) .0)
   step-holds msg e =
-      let x = event-holds (marketOf w .limits .H) (marketOf w .log .base) (keys (marketOf w .log)) key msg ((connAt i (marketOf w)) .line) e in
-      record { line = x .line; was = x .was; is = x .is; few = omega (arith, x .few, ap (λ (l : Limits). l .H) (market-limits w)) }
+      let x = event-holds ((connAt i (marketOf w)) .limit) (marketOf w .log .base) (keys (marketOf w .log)) key msg ((connAt i (marketOf w)) .line) e in
+      record { line = x .line; was = x .was; is = x .is; few = omega (arith, x .few, limit-sound w s i h) }
 
   pub step-leads : (msg n : ℕ) → stepAt i key msg (marketOf w) .1 ≡ word apply n 0 → Leads ((connAt i (marketOf w)) .line) (stepAt i key msg (marketOf w))
-  step-leads msg n e = event-leads (marketOf w .limits .H) (marketOf w .log .base) (keys (marketOf w .log)) key msg n ((connAt i (marketOf w)) .line) e
+  step-leads msg n e = event-leads ((connAt i (marketOf w)) .limit) (marketOf w .log .base) (keys (marketOf w .log)) key msg n ((connAt i (marketOf w)) .line) e
 
   -- the line is at the log's end
   pub step-ends : (msg n : ℕ) → stepAt i key msg (marketOf w) .1 ≡ number n → (n ≡ 9) × (fullNumbers (marketOf w) ≡ true)
   step-ends msg n e =
       let m = marketOf w in
-      go ((connAt i m) .line) (line-sound s h) (event-ends (m .limits .H) (m .log .base) (keys (m .log)) key msg n ((connAt i m) .line) e)
+      go ((connAt i m) .line) (line-sound s h) (event-ends ((connAt i m) .limit) (m .log .base) (keys (m .log)) key msg n ((connAt i m) .line) e)
     where
       go : (l : Rules.Line) → LineSound (marketOf w .limits) (end (marketOf w .log)) l → Last n l → (n ≡ 9) × (fullNumbers (marketOf w) ≡ true)
       go (Rules.InLine x a b) le last =

@@ -15,7 +15,7 @@ use Rattle.store.specs.Store.{lineCount, marketOf}
 use Rattle.market_snapshots.specs.Snapshots.{tried}
 
 abbrev pub stepAt : ℕ → Key → ℕ → Market → Rules.Line × Said
-stepAt i k msg m = eventStep (m .limits .H) (m .log .base) (keys (m .log)) k msg ((connAt i m) .line)
+stepAt i k msg m = eventStep ((connAt i m) .limit) (m .log .base) (keys (m .log)) k msg ((connAt i m) .line)
 
 -- the book event to it
 abbrev pub eventAt : ℕ → Key → ℕ → ℕ → Market → Outcome

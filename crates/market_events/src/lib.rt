@@ -19,10 +19,10 @@ fn step_of(s: &[u64], i: usize, key: EventKey) -> Stepped
     requires { ⌜ (Sound (now s)) × (i < lineCount (now s)) ⌝ }
     ensures { λ r. ⌜ ((message : ℕ) → Steps r (stepAt i key message (marketOf (now (s .entry))))) ⌝ }
 {
-    let g = store::entries::limits(s).G as usize;
+    let limits = store::entries::limits(s);
     let head = store::entries::head(s);
-    let h = store::conns::held_limit(s);
-    store::conns::line_at(s, i).event(store::entries::keys(s), g, head, h, key)
+    let limit = store::conns::limit_at(s, i);
+    store::conns::line_at(s, i).event(store::entries::keys(s), limits.G as usize, head, limit, key)
 }
 
 // A pending line that holds one event more tries to line up.

@@ -6,15 +6,14 @@ use Prim.Native.Nat.{ℕ, suc, _+_, _-_, _*_, _≤_, _<_}
 use native.Mathlib.Omega.{arith}
 use native.Mathlib.Numerals.{add-one}
 use lib.Dec.{leb}
-use lib.ListN.{length, set, List·getD-eq-default}
-use lib.Seq.{getD-set-same, set-set}
+use lib.ListN.{length, List·getD-eq-default}
 use borrow.Author.Tests.{le-leb, lt-leb}
 use Rattle.rules.specs.declared.Limits.{Limits}
 use Rattle.rules.specs.Lists.{any}
 use Rattle.rules.specs.Quantities.{Key, same, maxCount, printOut}
 use Rattle.rules.specs.Prints as Tables
 use Rattle.rules.specs.Prints.{appliedIn, deliveredIn, applyPrint}
-use Rattle.rules.specs.Lines.{Line, Waiting, Pending, InLine, Failed, Connection, Market, connAt, lineOf, nobody, isInLine, isFailed, withLines, withPrints, setConn, setLine}
+use Rattle.rules.specs.Lines.{Line, Waiting, Pending, InLine, Failed, Connection, Market, connAt, lineOf, nobody, isInLine, isFailed, withPrints, setConn, setLine}
 use Rattle.rules.specs.Entering.{begin, onMarket, putOut}
 use Rattle.rules.specs.Calls.{Outcome, refused, did, just, apply, duplicate, held, ignored, failed, holdPrint, printCounted, noRow, print}
 use Rattle.rules.specs.Answers.{Said, number, word}
@@ -30,7 +29,7 @@ use Rattle.store.specs.Moves.{Moved, Tabled}
 use Rattle.store.specs.ConnMoves.{LineAt, NotFailed, PrintRoom}
 use Rattle.store.proofs.MarketLaws.{market-limits, lines-count}
 use Rattle.store.proofs.FrameLaws.{moved-on, moved-is}
-use Rattle.store.proofs.ConnLaws.{fits-sound, line-told, line-at-kept}
+use Rattle.store.proofs.ConnLaws.{fits-sound, limit-sound, line-told, line-again, line-at-kept}
 use Rattle.store.proofs.TableLaws.{tabled}
 use Rattle.output.specs.Output.{recordWords, overAt}
 use Rattle.market.specs.Lent.{Lent, lent, Answers, Roomy}
@@ -43,25 +42,17 @@ answers-is {l = l} {l₁ = l₁} {r = r} e a = subst (λ (x : Outcome). Answers 
 
 -- ---- hold
 
--- another line, after other held prints
-line-again : (i : ℕ) (l l₁ : Line) (hs : List (Key × ℕ)) (m : Market) → i < length (m .lines) → setLine i l₁ (setConn i l hs m) ≡ setConn i l₁ hs m
-line-again i l l₁ hs m h =
-    let c : Connection = record { conn = (connAt i m) .conn; line = l; held = hs } in
-    let c₁ : Connection = record { conn = (connAt i m) .conn; line = l₁; held = hs } in
-    ap (λ (x : Connection). withLines (set (set (m .lines) i c) i (record { conn = x .conn; line = l₁; held = x .held })) m) (getD-set-same (m .lines) i c nobody h)
-    ∙ ap (λ (ls : List Connection). withLines ls m) (set-set (m .lines) i c c₁)
-
 module _ (i : ℕ) (k : Key) (msg : ℕ) (m : Market) where
   already-is : any (λ h. same (h .0) k) ((connAt i m) .held) ≡ true → holdPrint i k msg m ≡ just held m
   unfolding holdPrint
   already-is e = rw e
 
-  fails-is : any (λ h. same (h .0) k) ((connAt i m) .held) ≡ false → leb (m .limits .H) (length ((connAt i m) .held)) ≡ true
+  fails-is : any (λ h. same (h .0) k) ((connAt i m) .held) ≡ false → leb ((connAt i m) .limit) (length ((connAt i m) .held)) ≡ true
       → holdPrint i k msg m ≡ just failed (setConn i Failed [] m)
   unfolding holdPrint
   fails-is e f = rw (e, f)
 
-  more-is : any (λ h. same (h .0) k) ((connAt i m) .held) ≡ false → leb (m .limits .H) (length ((connAt i m) .held)) ≡ false
+  more-is : any (λ h. same (h .0) k) ((connAt i m) .held) ≡ false → leb ((connAt i m) .limit) (length ((connAt i m) .held)) ≡ false
       → holdPrint i k msg m ≡ just held (setConn i ((connAt i m) .line) ((connAt i m) .held ++ ((k, msg) ∷ [])) m)
   unfolding holdPrint
   more-is e f = rw (e, f)
@@ -76,26 +67,24 @@ module _ {w : List ℕ} {i : ℕ} (p : Sound w × ((i < lineCount w) × NotFaile
 
   -- the print is not among the n that are held
   module _ {n : ℕ} (e : any (λ h. same (h .0) k) ((connAt i (marketOf w)) .held) ≡ false) (q : n ≡ length ((connAt i (marketOf w)) .held)) where
-    pub line-fails : {w₁ w₂ : List ℕ} → limitsOf w .H ≤ n → length w₁ ≡ length w → length w₂ ≡ length w₁
+    pub line-fails : {w₁ w₂ : List ℕ} → (connAt i (marketOf w)) .limit ≤ n → length w₁ ≡ length w → length w₂ ≡ length w₁
         → Moved w w₁ (setConn i ((connAt i (marketOf w)) .line) [] (marketOf w)) → Moved w₁ w₂ (setLine i Failed (marketOf w₁))
         → (v : List ℕ) → Answers (holdPrint i k msg (marketOf w)) (lent w v) (word failed 0 0) (lent w₂ v)
     line-fails h l l₁ a b v =
-        let z = ap (λ (x : Limits). x .H) (market-limits w) in
         let x = lines-count w in
         let y = p .1 .0 in
         justly failed (p .0) (l₁ ∙ l)
         (moved-is refl (moved-on a b) (ap (setLine i Failed) (a .market) ∙ line-again i ((connAt i (marketOf w)) .line) Failed [] (marketOf w) (omega arith)))
-        (fails-is i k msg (marketOf w) e (le-leb (marketOf w .limits .H) (length ((connAt i (marketOf w)) .held)) (omega arith))) hold-safe
+        (fails-is i k msg (marketOf w) e (le-leb ((connAt i (marketOf w)) .limit) (length ((connAt i (marketOf w)) .held)) (omega arith))) hold-safe
 
-    pub hold-room : n < limitsOf w .H → PrintRoom w i
-    hold-room h = record { fits = fits-sound w (p .0) i (p .1 .0); unfailed = p .1 .1; room = omega arith }
+    pub hold-room : n < (connAt i (marketOf w)) .limit → PrintRoom w i
+    hold-room h = let z = limit-sound w (p .0) i (p .1 .0) in record { fits = fits-sound w (p .0) i (p .1 .0); unfailed = p .1 .1; room = omega arith }
 
-    pub held-more : {w₁ : List ℕ} → n < limitsOf w .H → length w₁ ≡ length w
+    pub held-more : {w₁ : List ℕ} → n < (connAt i (marketOf w)) .limit → length w₁ ≡ length w
         → Moved w w₁ (setConn i ((connAt i (marketOf w)) .line) ((connAt i (marketOf w)) .held ++ ((k, msg) ∷ [])) (marketOf w))
         → (v : List ℕ) → Answers (holdPrint i k msg (marketOf w)) (lent w v) (word held 0 0) (lent w₁ v)
     held-more h l a v =
-        let z = ap (λ (x : Limits). x .H) (market-limits w) in
-        justly held (p .0) l a (more-is i k msg (marketOf w) e (lt-leb (marketOf w .limits .H) (length ((connAt i (marketOf w)) .held)) (omega arith))) hold-safe
+        justly held (p .0) l a (more-is i k msg (marketOf w) e (lt-leb ((connAt i (marketOf w)) .limit) (length ((connAt i (marketOf w)) .held)) (omega arith))) hold-safe
 
 -- a line whose prints went is still there
 pub dropped-at : {w w₁ : List ℕ} {i : ℕ} → Sound w → i < lineCount w → Moved w w₁ (setConn i ((connAt i (marketOf w)) .line) [] (marketOf w)) → LineAt w₁ i
@@ -178,7 +167,7 @@ hold-did : (i : ℕ) (k : Key) (msg : ℕ) (m : Market) → Done (holdPrint i k 
 unfolding holdPrint
 hold-did i k msg m =
     by-cond Done (any (λ h. same (h .0) k) ((connAt i m) .held)) (λ q. tt)
-    (λ q. by-cond Done (leb (m .limits .H) (length ((connAt i m) .held))) (λ r. tt) (λ r. tt))
+    (λ q. by-cond Done (leb ((connAt i m) .limit) (length ((connAt i m) .held))) (λ r. tt) (λ r. tt))
 
 counted-did : (i c : ℕ) (k : Key) (msg d a : ℕ) (m : Market) (l : Line) → Done (printCounted i c k msg d a m l)
 unfolding printCounted

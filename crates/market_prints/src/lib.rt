@@ -27,8 +27,8 @@ fn hold(s: &mut [u64], i: usize, key: EventKey, message: u64) -> Step
     if store::conns::holds_print(s, i, key) {
         return Step::Held;
     }
-    let h = store::conns::held_limit(s);
-    if h <= store::conns::prints_held(s, i) {
+    let limit = store::conns::limit_at(s, i);
+    if limit <= store::conns::prints_held(s, i) {
         store::conns::drop_prints(s, i);
         store::conns::set_line(s, i, Line::Failed);
         return Step::Failed;

@@ -31,9 +31,10 @@ use Rattle.moves.proofs.DoesLaws.{goes-then, goes-is}
 use Rattle.market.specs.Lent.{Lent, lent, Answers, Roomy}
 use Rattle.market.proofs.AnswerLaws.{ready-begin, goes-just, refuses, safe-as, answered, answers-from}
 use Rattle.market_snapshots.specs.Snapshots.{fullness, stepAt, snapshotAt, Fits, tried, completed}
+use Rattle.store.proofs.ConnLaws.{line-again}
 use Rattle.market_snapshots.proofs.SnapshotLaws.{not-full, if-full, line-here, line-sound, line-past, changed-self, stays, released-from}
 use Rattle.market_snapshots.proofs.StepLaws.{step-holds}
-use Rattle.market_snapshots.proofs.HoldLaws.{hold-room, held-moved, held-line, held-here, held-roomy, set-twice, takeOver-aside}
+use Rattle.market_snapshots.proofs.HoldLaws.{hold-room, held-moved, held-line, held-here, held-roomy, takeOver-aside}
 
 -- ---- held
 
@@ -54,7 +55,7 @@ completed-new : (i t : ℕ) (m : Market) (new : Rules.Line) → i < length (m .l
 completed-new i t m new h e =
     let m₁ = setLine i new m in
     let q : (connAt i m₁) .line ≡ new = ap (λ (c : Connection). c .line) (getD-set-same (m .lines) i _ nobody h) in
-    let p : setLine i (complete t new) m ≡ setLine i (complete t new) m₁ = sym (set-twice i new (complete t new) m h) in
+    let p : setLine i (complete t new) m ≡ setLine i (complete t new) m₁ = sym (line-again i new (complete t new) ((connAt i m) .held) m h) in
     ap (λ (b : Bool). cond b (cond (holdsBoth (itemsOf new)) (released held t (tried i t (setLine i (complete t new) m))) (just held m₁))
     (did apply [] (takeOver i (itemsOf new) t (begin m)))) e
     ∙ ap (λ (y : Market). cond (holdsBoth (itemsOf new)) (released held t (tried i t y)) (just held m₁)) p

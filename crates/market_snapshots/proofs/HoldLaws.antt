@@ -13,7 +13,7 @@ use Rattle.rules.specs.Lists.{any}
 use Rattle.rules.specs.Quantities.{areaItems, maxNumber, snapshotOut}
 use Rattle.rules.specs.Log.{end, stamp}
 use Rattle.rules.specs.Lines as Rules
-use Rattle.rules.specs.Lines.{Connection, Market, connAt, nobody, itemsOf, itemCount, snapshotOf, withLog, withLines, setLine}
+use Rattle.rules.specs.Lines.{Connection, Market, connAt, nobody, itemsOf, itemCount, snapshotOf, withHeld, withLine, withLog, withLines, setLine}
 use Rattle.rules.specs.Entering.{Work, begin, onMarket, noteEntry, putOut, pushOut, putItems, release, enter, takeOver}
 use Rattle.rules.specs.Calls.{just, apply, held, released}
 use Rattle.rules.specs.Answers.{word}
@@ -82,15 +82,6 @@ module _ {w v : List ℕ} {i : ℕ} {item : Item} {new : Rules.Line} (r : Roomy 
     pub held-roomy : fullness (marketOf w) ≡ 0 → Roomy w₁ v
     held-roomy f = changed-roomy (holding item ((connAt i (marketOf w)) .line)) h r d (held-sound f)
 
--- ---- a line replaced twice
-
-pub set-twice : (i : ℕ) (l l′ : Rules.Line) (m : Market) → i < length (m .lines) → setLine i l′ (setLine i l m) ≡ setLine i l′ m
-set-twice i l l′ m h =
-    let c : Connection = record { conn = (connAt i m) .conn; line = l; held = (connAt i m) .held } in
-    ap (λ (x : Connection). withLines (set (set (m .lines) i c) i (record { conn = x .conn; line = l′; held = x .held })) m)
-    (getD-set-same (m .lines) i c nobody h)
-    ∙ ap (λ (ls : List Connection). withLines ls m) (set-set (m .lines) i c (record { conn = c .conn; line = l′; held = c .held }))
-
 -- ---- a take-over does not go by the line that it replaces
 
 lines-aside : (c t : ℕ) (is : List Item) (ls : List Connection) (k : Work)
@@ -101,24 +92,26 @@ lines-aside c t (Item.Snapshot u msg ∷ is) ls k = lines-aside c t is ls (putOu
 lines-aside c t (Item.Event key msg ∷ is) ls k = lines-aside c t is ls (pushOut c t key msg k)
 
 enter-aside : (i e n : ℕ) (a b : Bool) (c : Connection) (k : Work) → i < length (k .market .lines) → c .conn ≡ (connAt i (k .market)) .conn
-    → c .held ≡ (connAt i (k .market)) .held
+    → c .limit ≡ (connAt i (k .market)) .limit → c .held ≡ (connAt i (k .market)) .held
     → enter i e n a b (onMarket (withLines (set (k .market .lines) i c)) k) ≡ enter i e n a b k
 unfolding enter
-enter-aside i e n a b c k h p q =
+enter-aside i e n a b c k h p o q =
     let ls = k .market .lines in
     let x = getD-set-same ls i c nobody h in
     let conn : (getD (set ls i c) i nobody) .conn ≡ (connAt i (k .market)) .conn = ap (λ (y : Connection). y .conn) x ∙ p in
     let prints : (getD (set ls i c) i nobody) .held ≡ (connAt i (k .market)) .held = ap (λ (y : Connection). y .held) x ∙ q in
-    let into : ℕ → Connection = λ y. record { conn = y; line = Rules.InLine n a b; held = [] } in
-    let lines : set (set ls i c) i (into ((getD (set ls i c) i nobody) .conn)) ≡ set ls i (into ((connAt i (k .market)) .conn)) =
-    ap (λ (y : ℕ). set (set ls i c) i (into y)) conn ∙ set-set ls i c (into ((connAt i (k .market)) .conn)) in
+    let limit : (getD (set ls i c) i nobody) .limit ≡ (connAt i (k .market)) .limit = ap (λ (y : Connection). y .limit) x ∙ o in
+    let into : ℕ → ℕ → Connection = λ y z. record { conn = y; limit = z; line = Rules.InLine n a b; held = [] } in
+    let new : Connection = withLine (Rules.InLine n a b) (withHeld [] (connAt i (k .market))) in
+    let lines : set (set ls i c) i (withLine (Rules.InLine n a b) (withHeld [] (getD (set ls i c) i nobody))) ≡ set ls i new =
+    (λ j. set (set ls i c) i (into (conn j) (limit j))) ∙ set-set ls i c new in
     λ j. release (conn j) (prints j) (noteEntry (conn j) e (onMarket (withLines (lines j)) k))
 
 pub takeOver-aside : (i : ℕ) (is : List Item) (t : ℕ) (l : Rules.Line) (m : Market) → i < length (m .lines)
     → takeOver i is t (begin (setLine i l m)) ≡ takeOver i is t (begin m)
 unfolding takeOver
 takeOver-aside i is t l m h =
-    let c : Connection = record { conn = (connAt i m) .conn; line = l; held = (connAt i m) .held } in
+    let c : Connection = withLine l (connAt i m) in
     let ls = set (m .lines) i c in
     let x = not (any (snapshotOf 0) is) in
     let y = not (any (snapshotOf 1) is) in
@@ -130,7 +123,7 @@ takeOver-aside i is t l m h =
     ∙ ap into (lines-aside ((connAt i m) .conn) t is ls (begin m))
     ∙ ap (λ (z : List Connection). enter i (end (m .log)) (end (k .market .log)) x y (onMarket (withLines (set z i c)) k)) (sym g)
     ∙ enter-aside i (end (m .log)) (end (k .market .log)) x y c k (omega arith) (ap (λ (z : List Connection). (getD z i nobody) .conn) (sym g))
-    (ap (λ (z : List Connection). (getD z i nobody) .held) (sym g))
+    (ap (λ (z : List Connection). (getD z i nobody) .limit) (sym g)) (ap (λ (z : List Connection). (getD z i nobody) .held) (sym g))
 
 -- ---- a snapshot that is complete
 

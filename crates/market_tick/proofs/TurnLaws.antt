@@ -6,13 +6,12 @@ use mathlib.Core.Logic.{_⊎_, inl, inr}
 use Prim.Native.Nat.{ℕ, _+_, _-_, _*_, _≤_, _<_}
 use native.Mathlib.Omega.{arith}
 use lib.Dec.{ltb}
-use lib.ListN.{length, getD, set, take-append-drop, length-append, length-map, List·getD-map}
-use lib.Seq.{getD-set-same, set-set}
+use lib.ListN.{length, take-append-drop, length-append, length-map, List·getD-map}
 use Rattle.rules.specs.declared.Expired.{Expired}
 use Rattle.rules.specs.declared.Expired.the-variants as Expired
 use Rattle.rules.specs.declared.Limits.{Limits}
 use Rattle.rules.specs.Log.{Log, clear}
-use Rattle.rules.specs.Lines.{Connection, Failed, InLine, Line, Market, Pending, Waiting, connAt, isFailed, isPending, itemsOf, nobody, setConn, setLine, withLines, withLog}
+use Rattle.rules.specs.Lines.{Connection, Failed, InLine, Line, Market, Pending, Waiting, connAt, isFailed, isPending, itemsOf, nobody, setConn, setLine, withLine, withLog}
 use Rattle.rules.specs.Entering.{Work, begin, onMarket, sweep, takeOver}
 use Rattle.rules.specs.Calls.{eachLine}
 use Rattle.rules.specs.Tick as Rules
@@ -32,6 +31,7 @@ use Rattle.store.specs.Store.{lineCount, marketOf, Sized, Sound}
 use Rattle.store.specs.Moves.{Moved}
 use Rattle.store.specs.ConnMoves.{itemsAt, Lined, NotFailed}
 use Rattle.store.proofs.MarketLaws.{lines-count}
+use Rattle.store.proofs.ConnLaws.{line-again}
 use Rattle.store.proofs.FrameLaws.{moved-on, moved-is, moved-limits}
 use Rattle.output.specs.Output.{reportWords, reportsWords, overAt}
 use Rattle.output.proofs.OverLaws.{reports-append, reports-length, over-twice}
@@ -90,13 +90,9 @@ pub fails-done : {u u₁ u₂ q q₁ : List ℕ} (t : Turned) {i conn m : ℕ} {
 fails-done {u} {u₁} {u₂} {q} {q₁} t {i} {conn} {m} {line} f h c a b r v k e =
     let old = marketOf u in
     let l : i < length (old .lines) = omega (arith, lines-count u) in
-    let x : Connection = record { conn = (connAt i old) .conn; line = (connAt i old) .line; held = [] } in
-    let y : Connection → Connection = λ z. record { conn = z .conn; line = Failed; held = z .held } in
-    let p : set (set (old .lines) i x) i (y (getD (set (old .lines) i x) i nobody)) ≡ set (old .lines) i (y x) =
-    ap (λ (z : Connection). set (set (old .lines) i x) i (y z)) (getD-set-same (old .lines) i x nobody l) ∙ set-set (old .lines) i x (y x) in
     let s : setLine i (lineOf line (itemsAt u₁ i)) (marketOf u₁) ≡ setConn i Failed [] old =
     ap (λ (z : Line). setLine i z (marketOf u₁)) (stands-empty f refl (itemsAt u₁ i))
-    ∙ ap (setLine i Failed) (a .market) ∙ ap (λ (z : List Connection). withLines z old) p in
+    ∙ ap (setLine i Failed) (a .market) ∙ line-again i ((connAt i old) .line) Failed [] old l in
     record {
       goes = does-market (setConn i Failed []) (moved-is refl (moved-on a b) s) k e;
       reported = subst (λ (n : ℕ). Reported (Expired.Failed n ∷ []) q (t .m) q₁ m) (c ∙ ap (λ (z : Market). (connAt i z) .conn) (sym e)) (reported-one (Expired.Failed conn) r);
@@ -117,14 +113,14 @@ out-line t (InLine n a b) e = absurd (ff≢tt refl e)
 out-line t Failed e = refl
 
 outConn : ℕ → Connection → Connection
-outConn t x = record { conn = x .conn; line = outOfLine t (x .line); held = x .held }
+outConn t x = withLine (outOfLine t (x .line)) x
 
 -- who is pending stays what it was
 conn-out : (t i : ℕ) (m : Market) → isPending ((connAt i m) .line) ≡ true → connAt i (allOut t m) ≡ connAt i m
 unfolding outConn
 conn-out t i m e =
     let c = connAt i m in
-    List·getD-map (outConn t) (m .lines) i nobody ∙ (λ j. record { conn = c .conn; line = out-line t (c .line) e j; held = c .held })
+    List·getD-map (outConn t) (m .lines) i nobody ∙ (λ j. withLine (out-line t (c .line) e j) c)
 
 out-less : (t : ℕ) (l : Line) (h : ℕ) → length (itemsOf (outOfLine t l)) + h ≤ length (itemsOf l) + h
 out-less t (Waiting is since) h = omega arith

@@ -6,7 +6,6 @@ use Prim.Native.Nat.{ℕ, _+_, _-_, _^_, _≤_, _<_}
 use native.Mathlib.Omega.{arith}
 use lib.Dec.{ltb}
 use lib.ListN.{length, set}
-use lib.Seq.{getD-set-same, set-set}
 use Rattle.rules.specs.declared.Item.{Item}
 use Rattle.rules.specs.Quantities.{Key, printOut}
 use Rattle.rules.specs.Lists.{any}
@@ -25,7 +24,7 @@ use Rattle.store.specs.ConnMoves.{itemsAt, LineAt, LineFits, NotFailed}
 use Rattle.store.proofs.MarketLaws.{market-limits, lines-count}
 use Rattle.store.proofs.FrameLaws.{moved-on, moved-is}
 use Rattle.store.proofs.TableLaws.{tabled}
-use Rattle.store.proofs.ConnLaws.{fits-sound, line-at-kept}
+use Rattle.store.proofs.ConnLaws.{fits-sound, line-again, line-at-kept}
 use Rattle.moves.specs.Does.{Does, Ready, EnterRoom}
 use Rattle.moves.proofs.DoesLaws.{does-then, does-market, goes-then, goes-as, goes-is}
 use Rattle.moves.proofs.StoreReads.{value-line}
@@ -55,13 +54,6 @@ release-relined c (h ∷ hs) ls es k =
     both true k₁ = refl
     both false k₁ = refl
 
--- the held prints dropped and then the line set
-set-both : (i : ℕ) (l line : Line) (m : Market) → i < length (m .lines) → setLine i line (setConn i l [] m) ≡ setConn i line [] m
-set-both i l line m h =
-    let c : Connection = record { conn = (connAt i m) .conn; line = l; held = [] } in
-    ap (λ (x : Connection). withLines (set (set (m .lines) i c) i (record { conn = x .conn; line = line; held = x .held })) m) (getD-set-same (m .lines) i c nobody h)
-    ∙ ap (λ (ls : List Connection). withLines ls m) (set-set (m .lines) i c (record { conn = (connAt i m) .conn; line = line; held = [] }))
-
 module _ {w v w₁ v₁ : List ℕ} {n n₁ : ℕ} (i : ℕ) (r : EnterRoom w v n i)
     (d : Does (release ((connAt i (marketOf w)) .conn) ((connAt i (marketOf w)) .held)) w v n w₁ v₁ n₁) where
   left : Stays w w₁
@@ -83,7 +75,7 @@ module _ {w v w₁ v₁ : List ℕ} {n n₁ : ℕ} (i : ℕ) (r : EnterRoom w v 
         let hs : List (Key × ℕ) = (connAt i (marketOf w)) .held in
         let at : i < length (marketOf w₁ .lines) = (let h = drop-ready .0 .here in let b = lines-count w₁ in omega arith) in
         let m : Moved w₁ w₃ (setConn i line [] (marketOf w₁)) =
-        moved-is refl (moved-on m₂ m₃) ((λ j. setLine i (is (itemsAt w₂ i) j) (m₂ .market j)) ∙ set-both i ((connAt i (marketOf w₁)) .line) line (marketOf w₁) at) in
+        moved-is refl (moved-on m₂ m₃) ((λ j. setLine i (is (itemsAt w₂ i) j) (m₂ .market j)) ∙ line-again i ((connAt i (marketOf w₁)) .line) line [] (marketOf w₁) at) in
         let room = r .prints .room in
         let g = does-then (release c hs) (onMarket (setConn i line [])) (omega arith) d (does-market (setConn i line []) m) k e in
         let ls : List Connection = entered i next due0 due1 (k .market .lines) in

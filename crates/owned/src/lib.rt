@@ -15,12 +15,18 @@ ghost use Rattle.batch.specs.Batch.{Runs, lists};
 ghost use Rattle.batch.specs.Told.{TellsBatched};
 
 #[no_mangle]
-pub extern "C" fn owned_subscribe(s: &mut [u64], conn: u64, t: u64, count: &mut u64) -> u64
+pub extern "C" fn owned_subscribe(
+    s: &mut [u64],
+    conn: u64,
+    limit: u64,
+    t: u64,
+    count: &mut u64,
+) -> u64
     requires { ⌜ Sound (now s) ⌝ }
     ensures { λ r. ⌜ Telling (λ a. Tells a r (now (count .exit)) 0)
-        (λ a. Steps (Subscribe conn t) (alone (now (s .entry))) a (alone (now (s .exit)))) ⌝ }
+        (λ a. Steps (Subscribe conn limit t) (alone (now (s .entry))) a (alone (now (s .exit)))) ⌝ }
 {
-    let a = steps::subscribe(s, conn, t);
+    let a = steps::subscribe(s, conn, limit, t);
     let told = codes::of_changed(a);
     *count = told.count;
     told.code

@@ -245,7 +245,7 @@ fn main() {
     let mut input = [0u8; 65516];
     let limits = Limits {
         L: 4,
-        H: 32,
+        H: reading::HELD,
         G: 128,
         C: 32,
         D: 128,

@@ -6,6 +6,9 @@ ghost use mathlib.Core.Path.{_≡_};
 ghost use Prim.Native.Nat.{_*_, _≤_};
 ghost use lib.ListN.{length};
 
+// The held limit H of the program's market, and the limit of each of its lines.
+pub const HELD: u64 = 32;
+
 // The view answer of a tick has a binary digit for each of the four lines.
 const ALL_LINES: u64 = 15;
 
@@ -38,7 +41,7 @@ fn put_row(row: &mut [u64], call: Call) -> Next
     requires { ⌜ length (now row) ≡ 8 ⌝ }
 {
     match call {
-        Call::Subscribe(conn, time) => words::put8(row, 1, conn, 0, 0, 0, 0, time, 0),
+        Call::Subscribe(conn, time) => words::put8(row, 1, conn, HELD, 0, 0, 0, time, 0),
         Call::Snapshot(conn, token, message, time) => {
             words::put8(row, 2, conn, token, 0, 0, message, time, 0)
         }

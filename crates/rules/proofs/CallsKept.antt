@@ -11,10 +11,10 @@ use lib.ListN.{length, getD, length-append, length-map}
 use lib.Seq.{getD-append-seam, getD-append-add}
 use Rattle.rules.specs.declared.Item.{Item}
 use Rattle.rules.specs.Lists.{Each, Rising, any, first, keep, nil}
-use Rattle.rules.specs.Quantities.{Key, areaItems, maxCount, noKey, printOut, same, snapshotOut}
+use Rattle.rules.specs.Quantities.{Key, areaItems, maxCount, noKey, printOut, same, snapshotOut, within}
 use Rattle.rules.specs.Log.{clear, end, keys, stamp}
 use Rattle.rules.specs.Prints.{appliedIn, applyPrint, counted, deliveredIn, removeCounts}
-use Rattle.rules.specs.Lines.{Connection, Failed, InLine, Line, Market, Pending, Waiting, connAt, eventKeys, events, isFailed, isInLine, itemsOf, lineOf, nobody, setConn, setLine, snapshotOf, someone, subscribed, withLines, withLog, withPrints}
+use Rattle.rules.specs.Lines.{Connection, Failed, InLine, Line, Market, Pending, Waiting, connAt, eventKeys, events, isFailed, isInLine, itemsOf, lineOf, nobody, setConn, setLine, snapshotOf, someone, subscribed, waiting, withLine, withLines, withLog, withPrints}
 use Rattle.rules.specs.Entering.{Work, begin, onMarket, pushOut, putOut, sweep, takeOver, tryLineUp}
 use Rattle.rules.specs.Calls.{Answer, Outcome, apply, below, better, bookEvent, claim, did, done, dropConn, dueEnds, dueFor, duplicate, fullLog, fullNumbers, held, holdPrint, just, noRow, pendingAnew, print, printCounted, promote, refuse, refused, released, reset, snapshot, source, subscribe}
 use Rattle.rules.specs.Sound.{Lower}
@@ -50,26 +50,26 @@ pub none-held : (t : List Key) → Suffix [] t
 none-held t = (t, sym (append-nil t))
 
 -- ---- a connection seated
-pub subscribed-above : (c now x : ℕ) (ls : List Connection) → x < c → Each (λ y. x < y .conn) ls → Each (λ y. x < y .conn) (subscribed c now ls)
+pub subscribed-above : (c limit now x : ℕ) (ls : List Connection) → x < c → Each (λ y. x < y .conn) ls → Each (λ y. x < y .conn) (subscribed c limit now ls)
 unfolding subscribed
-subscribed-above c now x [] h e = (h, tt)
-subscribed-above c now x (y ∷ ys) h e = by-cond (Each (λ z. x < z .conn)) (ltb c (y .conn)) (λ q. (h, e))
-    (λ q. by-cond (Each (λ z. x < z .conn)) (eqb (y .conn) c) (λ r. (h, e .1)) (λ r. (e .0, subscribed-above c now x ys h (e .1))))
+subscribed-above c limit now x [] h e = (h, tt)
+subscribed-above c limit now x (y ∷ ys) h e = by-cond (Each (λ z. x < z .conn)) (ltb c (y .conn)) (λ q. (h, e))
+    (λ q. by-cond (Each (λ z. x < z .conn)) (eqb (y .conn) c) (λ r. (h, e .1)) (λ r. (e .0, subscribed-above c limit now x ys h (e .1))))
 
-pub subscribed-sorted : (c now : ℕ) (ls : List Connection) → Sorted ls → Sorted (subscribed c now ls)
+pub subscribed-sorted : (c limit now : ℕ) (ls : List Connection) → Sorted ls → Sorted (subscribed c limit now ls)
 unfolding subscribed Rising
-subscribed-sorted c now [] o = (tt, tt)
-subscribed-sorted c now (y ∷ ys) o = by-cond (Rising Lower) (ltb c (y .conn))
+subscribed-sorted c limit now [] o = (tt, tt)
+subscribed-sorted c limit now (y ∷ ys) o = by-cond (Rising Lower) (ltb c (y .conn))
     (λ q. ((ltb-true q, each-imp (λ z. y .conn < z .conn) (λ z. c < z .conn) (λ z h. let k : c < y .conn = ltb-true q in omega arith) ys (o .0)), o))
     (λ q. by-cond (Rising Lower) (eqb (y .conn) c)
     (λ r. (subst (λ n. Each (λ z. n < z .conn) ys) (eqb-true r) (o .0), o .1))
-    (λ r. (subscribed-above c now (y .conn) ys (let a : y .conn ≤ c = ltb-false q in let b : y .conn ≢ c = eqb-false r in omega arith) (o .0), subscribed-sorted c now ys (o .1))))
+    (λ r. (subscribed-above c limit now (y .conn) ys (let a : y .conn ≤ c = ltb-false q in let b : y .conn ≢ c = eqb-false r in omega arith) (o .0), subscribed-sorted c limit now ys (o .1))))
 
-pub subscribed-each : (P : Connection → Type 0) (c now : ℕ) (ls : List Connection) → P (record { conn = c; line = Waiting [] now; held = [] }) → Each P ls → Each P (subscribed c now ls)
+pub subscribed-each : (P : Connection → Type 0) (c limit now : ℕ) (ls : List Connection) → P (waiting c limit now) → Each P ls → Each P (subscribed c limit now ls)
 unfolding subscribed
-subscribed-each P c now [] p e = (p, tt)
-subscribed-each P c now (y ∷ ys) p e = by-cond (Each P) (ltb c (y .conn)) (λ q. (p, e))
-    (λ q. by-cond (Each P) (eqb (y .conn) c) (λ r. (p, e .1)) (λ r. (e .0, subscribed-each P c now ys p (e .1))))
+subscribed-each P c limit now [] p e = (p, tt)
+subscribed-each P c limit now (y ∷ ys) p e = by-cond (Each P) (ltb c (y .conn)) (λ q. (p, e))
+    (λ q. by-cond (Each P) (eqb (y .conn) c) (λ r. (p, e .1)) (λ r. (e .0, subscribed-each P c limit now ys p (e .1))))
 
 -- who takes over has a claim
 pub source-law : (ls : List Connection) (i : ℕ) (x : ℕ × (ℕ × ℕ)) → source i ls ≡ some x
@@ -133,13 +133,16 @@ module _ (s : ℕ) (B : List (ℕ × Key)) (E : ℕ → ℕ) where
     cleared = subst (λ n. Good s B T E (m .log .base + n) [] (m .lines)) (length-map (m .log .entries) (λ e. e .0)) (clear-good g)
 
   -- ---- Subscribe
-  pub subscribe-fine : (T : ℕ → List Key) (c now : ℕ) (m : Market) → GoodM s B T E m → Fine (λ a. T) (subscribe c now m)
+  pub subscribe-fine : (T : ℕ → List Key) (c limit now : ℕ) (m : Market) → GoodM s B T E m → Fine (λ a. T) (subscribe c limit now m)
   unfolding subscribe
-  subscribe-fine T c now m g = refuse-fine (λ a. T) (not (any (λ s. eqb (s .conn) c) (m .lines)) && leb (m .limits .L) (length (m .lines))) 4
-      (just done (withLines (subscribed c now (m .lines)) (withPrints (removeCounts c (m .prints)) m)))
-      (begin-good T (withLines (subscribed c now (m .lines)) (withPrints (removeCounts c (m .prints)) m))
-      (lines-good (subscribed c now (m .lines)) (subscribed-sorted c now (m .lines) (g .rises))
-      (subscribed-each (ConnOk s (keysOf B) T E) c now (m .lines) (none-held (T c)) (g .conns)) g))
+  subscribe-fine T c limit now m g =
+      let full = not (any (λ s. eqb (s .conn) c) (m .lines)) && leb (m .limits .L) (length (m .lines)) in
+      let o = just done (withLines (subscribed c limit now (m .lines)) (withPrints (removeCounts c (m .prints)) m)) in
+      refuse-fine (λ a. T) (not (within 1 (m .limits .H) limit)) 18 (refuse full 4 o)
+      (refuse-fine (λ a. T) full 4 o
+      (begin-good T (withLines (subscribed c limit now (m .lines)) (withPrints (removeCounts c (m .prints)) m))
+      (lines-good (subscribed c limit now (m .lines)) (subscribed-sorted c limit now (m .lines) (g .rises))
+      (subscribed-each (ConnOk s (keysOf B) T E) c limit now (m .lines) (none-held (T c)) (g .conns)) g)))
 
   -- ---- Reset
   pub reset-fine : (T : ℕ → List Key) (now : ℕ) (m : Market) → GoodM s B T E m → Fine (λ a. T) (just done (reset now m))
@@ -148,7 +151,7 @@ module _ (s : ℕ) (B : List (ℕ × Key)) (E : ℕ → ℕ) where
       (each-map (ConnOk s (keysOf B) T E) (ConnOk s (keysOf B) T E) f (λ x h. un x (x .line)) (m .lines) (g .conns)) (cleared T m g))
     where
       f : Connection → Connection
-      f x = record { conn = x .conn; line = pendingAnew now (x .line); held = x .held }
+      f x = withLine (pendingAnew now (x .line)) x
 
       un : (x : Connection) (l : Line) → LineOk s (keysOf B) (T (x .conn)) (E (x .conn)) (pendingAnew now l)
       un x (Waiting is since) = none-held (T (x .conn))
@@ -285,7 +288,7 @@ module _ (s : ℕ) (B : List (ℕ × Key)) (E : ℕ → ℕ) where
       let lt = here i m (Waiting is since) e refl in
       let is′ = is ++ (Item.Event k msg ∷ []) in
       let o = just held (setLine i (Waiting is′ since) m) in
-      by-cond (Fine F) (leb (m .limits .H) (length is))
+      by-cond (Fine F) (leb ((connAt i m) .limit) (length is))
       (λ q. begin-good T (setLine i Failed m) (set-good T m g i Failed ((connAt i m) .held) lt tt))
       (λ q. refuse-fine F (fullLog m) 5 (refuse (fullNumbers m) 9 o) (refuse-fine F (fullNumbers m) 9 o
       (begin-good (replace T ((connAt i m) .conn) (T ((connAt i m) .conn) ++ (k ∷ []))) (setLine i (Waiting is′ since) m)
@@ -298,7 +301,7 @@ module _ (s : ℕ) (B : List (ℕ × Key)) (E : ℕ → ℕ) where
       let w = tryLineUp false i now (begin (setLine i (Pending is′ at since) m)) in
       let a = cond (isInLine ((connAt i (w .market)) .line)) duplicate held in
       let o = released a now w in
-      by-cond (Fine F) (leb (m .limits .H) (length is))
+      by-cond (Fine F) (leb ((connAt i m) .limit) (length is))
       (λ q. begin-good T (setLine i Failed m) (set-good T m g i Failed ((connAt i m) .held) lt tt))
       (λ q. refuse-fine F (fullLog m) 5 (refuse (fullNumbers m) 9 o) (refuse-fine F (fullNumbers m) 9 o
       (released-fine F T₁ a now w (by-cond (λ x. F x ≡ T₁) (isInLine ((connAt i (w .market)) .line)) (λ r. refl) (λ r. refl)) refl
@@ -330,7 +333,7 @@ module _ (s : ℕ) (B : List (ℕ × Key)) (E : ℕ → ℕ) where
   holdPrint-fine T i k msg m l e f g =
       let lt = here i m l e f in
       by-cond (Fine (λ a. T)) (any (λ h. same (h .0) k) ((connAt i m) .held)) (λ q. begin-good T m g)
-      (λ q. by-cond (Fine (λ a. T)) (leb (m .limits .H) (length ((connAt i m) .held)))
+      (λ q. by-cond (Fine (λ a. T)) (leb ((connAt i m) .limit) (length ((connAt i m) .held)))
       (λ r. begin-good T (setConn i Failed [] m) (set-good T m g i Failed [] lt tt))
       (λ r. begin-good T (setConn i ((connAt i m) .line) ((connAt i m) .held ++ ((k, msg) ∷ [])) m)
       (set-good T m g i ((connAt i m) .line) ((connAt i m) .held ++ ((k, msg) ∷ [])) lt (each-at (ConnOk s (keysOf B) T E) (m .lines) i nobody lt (g .conns)))))

@@ -57,7 +57,7 @@ module _ (U : List Key) (m : Market) (xs ys : List Call) (o : (c : ℕ) → own 
       to : (x : Call) → Goes m x → Goes m (timeless x)
       to (BookEvent c k msg now room) t = t
       to (Print c k msg now room) t = t
-      to (Subscribe c now) t = t
+      to (Subscribe c limit now) t = t
       to (Snapshot c i msg now room) t = t
       to (Drop c now room) t = t
       to (Promote now room) t = t
@@ -67,7 +67,7 @@ module _ (U : List Key) (m : Market) (xs ys : List Call) (o : (c : ℕ) → own 
       back : (x : Call) → Goes m (timeless x) → Goes m x
       back (BookEvent c k msg now room) t = t
       back (Print c k msg now room) t = t
-      back (Subscribe c now) t = t
+      back (Subscribe c limit now) t = t
       back (Snapshot c i msg now room) t = t
       back (Drop c now room) t = t
       back (Promote now room) t = t
@@ -95,7 +95,7 @@ module _ (U : List Key) (m : Market) (xs ys : List Call) (o : (c : ℕ) → own 
       same-room : (x : Call) → roomOf (timeless x) ≡ roomOf x
       same-room (BookEvent c k msg now room) = refl
       same-room (Print c k msg now room) = refl
-      same-room (Subscribe c now) = refl
+      same-room (Subscribe c limit now) = refl
       same-room (Snapshot c i msg now room) = refl
       same-room (Drop c now room) = refl
       same-room (Promote now room) = refl

@@ -24,7 +24,7 @@ use Rattle.rules.proofs.Still.{lineIn}
 -- ---- what the calls print
 
 abbrev pub aKey : Call → List Key → List Key
-aKey (Subscribe d now) l = l
+aKey (Subscribe d limit now) l = l
 aKey (Snapshot d i msg now room) l = l
 aKey (BookEvent d k msg now room) l = l
 aKey (Print d k msg now room) l = k ∷ l
@@ -38,7 +38,7 @@ printKeys [] = []
 printKeys (x ∷ xs) = aKey x (printKeys xs)
 
 abbrev pub aPair : Call → List (Key × ℕ) → List (Key × ℕ)
-aPair (Subscribe d now) l = l
+aPair (Subscribe d limit now) l = l
 aPair (Snapshot d i msg now room) l = l
 aPair (BookEvent d k msg now room) l = l
 aPair (Print d k msg now room) l = (k, d) ∷ l
@@ -58,7 +58,7 @@ abbrev pub seenPair : Market → Key × ℕ → Bool
 seenPair m p = any (ofPair (p .0) (p .1)) (m .prints .countRows)
 
 abbrev pub roomOf : Call → ℕ
-roomOf (Subscribe d now) = 0
+roomOf (Subscribe d limit now) = 0
 roomOf (Snapshot d i msg now room) = room
 roomOf (BookEvent d k msg now room) = room
 roomOf (Print d k msg now room) = room

@@ -12,7 +12,7 @@ use Rattle.rules.specs.declared.Applied.{Applied}
 use Rattle.rules.specs.Lists.{Each, largest}
 use Rattle.rules.specs.Quantities.{Key, bookOut, maxNumber, noKey, same}
 use Rattle.rules.specs.Log.{Log, end, keys, push}
-use Rattle.rules.specs.Lines.{Connection, Failed, InLine, Line, Market, Pending, Waiting, connAt, isFailed, isInLine, isPending, itemCount, itemsOf, lineOf, nobody, setLine, lineFor}
+use Rattle.rules.specs.Lines.{Connection, Failed, InLine, Line, Market, Pending, Waiting, connAt, isFailed, isInLine, isPending, itemCount, itemsOf, lineOf, nobody, setLine, lineFor, withLine}
 use Rattle.rules.specs.Entering.{Work, begin, onMarket, pushOut, sweep}
 use Rattle.rules.specs.Calls.{apply, bookEvent, did, fullLog, fullNumbers, refuse}
 use Rattle.rules.specs.Refusals.{BookEvent, Call, short, step}
@@ -36,7 +36,7 @@ module _ (U : List Key) (m : Market) (c : ℕ) (k : Key) (msg now room : ℕ) (x
   i = lineOf c m
 
   v : Connection
-  v = record { conn = (connAt i m) .conn; line = InLine (suc n) a b; held = (connAt i m) .held }
+  v = withLine (InLine (suc n) a b) (connAt i m)
 
   i-lt : i < length (m .lines)
   unfolding i
@@ -80,7 +80,7 @@ module _ (U : List Key) (m : Market) (c : ℕ) (k : Key) (msg now room : ℕ) (x
       let q : n + counting (x ∷ xs) (s₀ .conn) ≡ suc n + counting xs (s₀ .conn) = let z = ap length mine in omega arith in
       let p : forward (counting (x ∷ xs) (s₀ .conn)) (s₀ .line) ≡ InLine (suc n + counting xs (s₀ .conn)) a b =
       ap (forward (counting (x ∷ xs) (s₀ .conn))) e ∙ ap (λ (z : ℕ). InLine z a b) q in
-      λ j. record { conn = s₀ .conn; line = p j; held = s₀ .held }
+      λ j. record { conn = s₀ .conn; limit = s₀ .limit; line = p j; held = s₀ .held }
 
   reach-at : reach (counting (x ∷ xs) ((connAt i m) .conn)) ((connAt i m) .line) ≡ suc n + counting xs ((connAt i m) .conn)
   unfolding i
@@ -126,7 +126,7 @@ module _ (U : List Key) (m : Market) (c : ℕ) (k : Key) (msg now room : ℕ) (x
       beyond = beyond;
       begins = begins;
       lines = sym (map-set (advanced (counting (x ∷ xs))) (advanced (counting xs)) (m .lines) i v (g .rises) i-lt moved-at
-          (λ s ne. ap (λ (o : List Key). record { conn = s .conn; line = forward (length o) (s .line); held = s .held }) (others (s .conn) ne)));
+          (λ s ne. ap (λ (o : List Key). withLine (forward (length o) (s .line)) s) (others (s .conn) ne)));
       far = far-on;
       base = same-base;
       items = sum-set-same (λ s. length (itemsOf (s .line))) (m .lines) i v (sym items-i);

@@ -51,7 +51,7 @@ module _ (s : ℕ) (B : List (ℕ × Key)) (T : ℕ → List Key) (E : ℕ → �
 
   pub step-fine : (x : Call) → Fine s B E (λ a. nowTaken x a T) (step x m)
   unfolding step
-  step-fine (Subscribe c now) = subscribe-fine s B E T c now m g
+  step-fine (Subscribe c limit now) = subscribe-fine s B E T c limit now m g
   step-fine (Snapshot c t msg now room) =
       let o = snapshot (lineOf c m) t msg now m (lineFor c m) in
       refuse-fine s B E (λ a. T) (ltb 1 t) 10 (refuse (short room m) 3 o)

@@ -15,7 +15,7 @@ use Rattle.rules.specs.Lists.{Each, Rising}
 use Rattle.rules.specs.Quantities.{Key}
 use Rattle.rules.specs.Log.{keys}
 use Rattle.rules.specs.Prints.{before}
-use Rattle.rules.specs.Lines.{Connection, Failed, InLine, Line, Market, Pending, Waiting, eventKeys, isFailed, nobody}
+use Rattle.rules.specs.Lines.{Connection, Failed, InLine, Line, Market, Pending, Waiting, eventKeys, isFailed, nobody, withHeld, withLine}
 use Rattle.rules.specs.Entering.{Work}
 use Rattle.rules.specs.Calls.{gone}
 use Rattle.rules.specs.Sound.{Lower}
@@ -178,15 +178,15 @@ module _ {s : ℕ} {B : List (ℕ × Key)} {T : ℕ → List Key} {E : ℕ → �
       → ((x : ℕ) → x ≢ (getD ls i nobody) .conn → E′ x ≡ E x)
       → LineOk s (keysOf B) (T′ ((getD ls i nobody) .conn)) (E′ ((getD ls i nobody) .conn)) line
       → Good s B T E base ks ls
-      → Good s B T′ E′ base ks (set ls i (record { conn = (getD ls i nobody) .conn; line = line; held = hs }))
+      → Good s B T′ E′ base ks (set ls i (withLine line (withHeld hs (getD ls i nobody))))
   setConn-good T′ E′ i line hs h t e ok g = record {
     numbers = g .numbers;
     gone = g .gone;
     all = g .all;
     basis = g .basis;
-    rises = sorted-set nobody ls i (record { conn = (getD ls i nobody) .conn; line = line; held = hs }) refl (g .rises);
+    rises = sorted-set nobody ls i (withLine line (withHeld hs (getD ls i nobody))) refl (g .rises);
     conns = revise nobody (ConnOk s (keysOf B) T E) (ConnOk s (keysOf B) T′ E′) ls i
-        (record { conn = (getD ls i nobody) .conn; line = line; held = hs }) (g .rises) h
+        (withLine line (withHeld hs (getD ls i nobody))) (g .rises) h
         (λ x ne p. rw (t (x .conn) ne, e (x .conn) ne) p) ok (g .conns);
   }
 

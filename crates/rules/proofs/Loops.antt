@@ -13,7 +13,7 @@ use Rattle.rules.specs.Lists.{keep, maybe}
 use Rattle.rules.specs.Quantities.{Key, printOut}
 use Rattle.rules.specs.Log.{end}
 use Rattle.rules.specs.Prints.{appliedIn, applyPrint, deliveredIn}
-use Rattle.rules.specs.Lines.{Connection, Failed, InLine, Line, Pending, Waiting, connAt, events, isPending, itemsOf, nobody, setConn, withPrints}
+use Rattle.rules.specs.Lines.{Connection, Failed, InLine, Line, Pending, Waiting, connAt, events, isPending, itemsOf, nobody, setConn, withHeld, withLine, withPrints}
 use Rattle.rules.specs.Place.{Place}
 use Rattle.rules.specs.Entering.{Work, aligns, enter, lineUp, noteEntry, onMarket, pendings, pushAll, putItems, putOut, release, round, rounds, sweep, takeOver, tryLineUp}
 use Rattle.rules.proofs.Tests.{by-cond, by-maybe, eqb-false, eqb-same, ff≢tt}
@@ -30,7 +30,7 @@ release-lines c (h ∷ hs) w =
     release-lines c hs (cond (ltb a d) w₁ w) ∙ by-cond (λ (x : Work). x .market .lines ≡ w .market .lines) (ltb a d) (λ e. refl) (λ e. refl)
 
 abbrev pub entered : ℕ → ℕ → Bool → Bool → List Connection → List Connection
-entered i n a b ls = set ls i (record { conn = (getD ls i nobody) .conn; line = InLine n a b; held = [] })
+entered i n a b ls = set ls i (withLine (InLine n a b) (withHeld [] (getD ls i nobody)))
 
 pub enter-lines : (i e n : ℕ) (a b : Bool) (w : Work) → (enter i e n a b w) .market .lines ≡ entered i n a b (w .market .lines)
 unfolding enter

@@ -15,7 +15,7 @@ use Rattle.rules.specs.Lists.{Each, count, keep, maybe, nil, only}
 use Rattle.rules.specs.Quantities.{Key, bookOut, printOut, same, snapshotOut}
 use Rattle.rules.specs.Log.{end, keys, stamp}
 use Rattle.rules.specs.Prints.{appliedIn, applyPrint, deliveredIn}
-use Rattle.rules.specs.Lines.{InLine, connAt, eventKeys, setConn, withLog, withPrints}
+use Rattle.rules.specs.Lines.{InLine, connAt, eventKeys, setConn, withHeld, withLine, withLog, withPrints}
 use Rattle.rules.specs.Place.{Place, alignment, counts, fits, places}
 use Rattle.rules.specs.Entering.{Work, enter, noteEntry, onMarket, pushAll, pushOut, putItems, putOut, release}
 use Rattle.rules.specs.Demand.{books, nowEntered, replace}
@@ -103,7 +103,7 @@ module _ (s : ℕ) (B : List (ℕ × Key)) (T : ℕ → List Key) (E : ℕ → �
       let E₀ = nowEntered (w .entered) E in
       release-good c ((connAt i (w .market)) .held) (noteEntry c e (onMarket (setConn i (InLine n a b) []) w))
       (subst (λ (X : ℕ → ℕ). Good s (B ++ books (w .out)) T X (w .market .log .base) (keys (w .market .log))
-      (set (w .market .lines) i (record { conn = c; line = InLine n a b; held = [] })))
+      (set (w .market .lines) i (withLine (InLine n a b) (withHeld [] (connAt i (w .market))))))
       (sym (entered-snoc (w .entered) (c, e) E))
       (setConn-good T (replace E₀ c e) i (InLine n a b) [] h (λ x ne. refl) (λ x ne. replace-other E₀ c e x ne)
       (subst (λ z. Agree s (keysOf (B ++ books (w .out))) (T c) z n) (sym (replace-same E₀ c e)) ok) g))

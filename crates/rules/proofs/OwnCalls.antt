@@ -45,7 +45,7 @@ cond-twice false x y = refl
 event-once : (c : ℕ) (x : Call) (l : List Key) → eventKey c x l ≡ cond (eqb (caller x) c) (eventKey c (timeless x) l) l
 event-once c (BookEvent d j msg now room) l = cond-twice (eqb d c) (j ∷ l) l
 event-once c (Print d j msg now room) l = sym (cond-same (eqb d c) l)
-event-once c (Subscribe d now) l = sym (cond-same (eqb d c) l)
+event-once c (Subscribe d limit now) l = sym (cond-same (eqb d c) l)
 event-once c (Snapshot d i msg now room) l = sym (cond-same (eqb d c) l)
 event-once c (Drop d now room) l = sym (cond-same (eqb d c) l)
 event-once c (Promote now room) l = sym (cond-same (eqb 0 c) l)
@@ -61,7 +61,7 @@ print-once k c (Print d j msg now room) n = go (same j k) (eqb d c)
     go true false = refl
     go false true = refl
     go false false = refl
-print-once k c (Subscribe d now) n = sym (cond-same (eqb d c) n)
+print-once k c (Subscribe d limit now) n = sym (cond-same (eqb d c) n)
 print-once k c (Snapshot d i msg now room) n = sym (cond-same (eqb d c) n)
 print-once k c (Drop d now room) n = sym (cond-same (eqb d c) n)
 print-once k c (Promote now room) n = sym (cond-same (eqb 0 c) n)
@@ -77,7 +77,7 @@ book-once c (BookEvent d j msg now room) l = go (eqb d c)
     go true = refl
     go false = refl
 book-once c (Print d j msg now room) l = sym (cond-same (eqb d c) l)
-book-once c (Subscribe d now) l = sym (cond-same (eqb d c) l)
+book-once c (Subscribe d limit now) l = sym (cond-same (eqb d c) l)
 book-once c (Snapshot d i msg now room) l = sym (cond-same (eqb d c) l)
 book-once c (Drop d now room) l = sym (cond-same (eqb d c) l)
 book-once c (Promote now room) l = sym (cond-same (eqb 0 c) l)
@@ -87,7 +87,7 @@ book-once c (Tick answers now room reports) l = sym (cond-same (eqb 0 c) l)
 copy-once : (c : ℕ) (x : Call) (l : List (Key × ℕ)) → ownPrint c x l ≡ cond (eqb (caller x) c) (ownPrint c (timeless x) l) l
 copy-once c (BookEvent d j msg now room) l = sym (cond-same (eqb d c) l)
 copy-once c (Print d j msg now room) l = cond-twice (eqb d c) ((j, msg) ∷ l) l
-copy-once c (Subscribe d now) l = sym (cond-same (eqb d c) l)
+copy-once c (Subscribe d limit now) l = sym (cond-same (eqb d c) l)
 copy-once c (Snapshot d i msg now room) l = sym (cond-same (eqb d c) l)
 copy-once c (Drop d now room) l = sym (cond-same (eqb d c) l)
 copy-once c (Promote now room) l = sym (cond-same (eqb 0 c) l)
@@ -144,7 +144,7 @@ prints-more : (k : Key) (c : ℕ) (x : Call) (xs : List Call) → printsBy k c x
 unfolding printsBy
 prints-more k c (Print d j msg now room) xs = by-cond (λ (n : ℕ). printsBy k c xs ≤ n) (same j k && eqb d c) (λ e. omega arith) (λ e. omega arith)
 prints-more k c (BookEvent d j msg now room) xs = omega arith
-prints-more k c (Subscribe d now) xs = omega arith
+prints-more k c (Subscribe d limit now) xs = omega arith
 prints-more k c (Snapshot d i msg now room) xs = omega arith
 prints-more k c (Drop d now room) xs = omega arith
 prints-more k c (Promote now room) xs = omega arith
@@ -167,7 +167,7 @@ pairs-printed (x ∷ xs) = go x (each-imp (λ p. 0 < printsBy (p .0) (p .1) xs) 
     go : (y : Call) → Each P (printPairs xs) → ((k : Key) (c msg now room : ℕ) → x ≡ Print c k msg now room → P (k, c)) → x ≡ y → Each P (aPair y (printPairs xs))
     go (Print d j msg now room) h f e = (f j d msg now room e, h)
     go (BookEvent d j msg now room) h f e = h
-    go (Subscribe d now) h f e = h
+    go (Subscribe d limit now) h f e = h
     go (Snapshot d i msg now room) h f e = h
     go (Drop d now room) h f e = h
     go (Promote now room) h f e = h
@@ -186,7 +186,7 @@ keys-printed (x ∷ xs) = go x (each-imp (λ k. (c : ℕ) × (0 < printsBy k c x
     go : (y : Call) → Each P (printKeys xs) → ((k : Key) (c msg now room : ℕ) → x ≡ Print c k msg now room → P k) → x ≡ y → Each P (aKey y (printKeys xs))
     go (Print d j msg now room) h f e = (f j d msg now room e, h)
     go (BookEvent d j msg now room) h f e = h
-    go (Subscribe d now) h f e = h
+    go (Subscribe d limit now) h f e = h
     go (Snapshot d i msg now room) h f e = h
     go (Drop d now room) h f e = h
     go (Promote now room) h f e = h
@@ -218,7 +218,7 @@ printed-in k c (Print d j msg now room ∷ xs) h = go (same j k && eqb d c) refl
     go false e t ih = let r = ih t in
         (or-right (samePair (k, c) (j, d)) (any (λ q. samePair (k, c) q) (printPairs xs)) (r .0), or-right (same k j) (any (λ i. same k i) (printKeys xs)) (r .1))
 printed-in k c (BookEvent d j msg now room ∷ xs) h = printed-in k c xs h
-printed-in k c (Subscribe d now ∷ xs) h = printed-in k c xs h
+printed-in k c (Subscribe d limit now ∷ xs) h = printed-in k c xs h
 printed-in k c (Snapshot d i msg now room ∷ xs) h = printed-in k c xs h
 printed-in k c (Drop d now room ∷ xs) h = printed-in k c xs h
 printed-in k c (Promote now room ∷ xs) h = printed-in k c xs h

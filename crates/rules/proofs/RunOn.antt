@@ -31,7 +31,7 @@ use Rattle.rules.proofs.GoingPrint.{print-judged}
 judged : (U : List Key) (m : Market) (x : Call) (xs : List Call) → Going U m (x ∷ xs) → Judged U m x xs (step x m)
 judged U m (BookEvent c k msg now room) xs g = book-judged U m c k msg now room xs g
 judged U m (Print c k msg now room) xs g = print-judged U m c k msg now room xs g
-judged U m (Subscribe c now) xs g = absurd (g .theirs .0)
+judged U m (Subscribe c limit now) xs g = absurd (g .theirs .0)
 judged U m (Snapshot c i msg now room) xs g = absurd (g .theirs .0)
 judged U m (Drop c now room) xs g = absurd (g .theirs .0)
 judged U m (Promote now room) xs g = absurd (g .theirs .0)
@@ -41,7 +41,7 @@ judged U m (Tick answers now room reports) xs g = absurd (g .theirs .0)
 pub goes-on : (m m′ : Market) → ((c : ℕ) → isInLine (lineIn c (m′ .lines)) ≡ isInLine (lineIn c (m .lines))) → (x : Call) → Goes m x → Goes m′ x
 goes-on m m′ h (BookEvent c k msg now room) t = h c ∙ t
 goes-on m m′ h (Print c k msg now room) t = h c ∙ t
-goes-on m m′ h (Subscribe c now) t = t
+goes-on m m′ h (Subscribe c limit now) t = t
 goes-on m m′ h (Snapshot c i msg now room) t = t
 goes-on m m′ h (Drop c now room) t = t
 goes-on m m′ h (Promote now room) t = t
@@ -73,7 +73,7 @@ far-none U m g = largest-same (end (m .log)) (map (λ s. reach 0 (s .line)) (m .
 lines-none : (ls : List Connection) → ls ≡ map (advanced (counting [])) ls
 unfolding eventsOf
 lines-none [] = refl
-lines-none (s ∷ ss) = let q = lines-none ss in let p : s ≡ advanced (counting []) s = λ i. record { conn = s .conn; line = go (s .line) i; held = s .held } in cc
+lines-none (s ∷ ss) = let q = lines-none ss in let p : s ≡ advanced (counting []) s = λ i. record { conn = s .conn; limit = s .limit; line = go (s .line) i; held = s .held } in cc
   where
     go : (l : Line) → l ≡ forward 0 l
     go (Waiting is since) = refl

@@ -86,7 +86,7 @@ book-later m (BookEvent c k msg now room) xs d n n′ r goes e h = go (eqb c d) 
         inr (subst (λ j. In r (ownBooks d j xs)) (omega arith) h)
     go false f q = subst (λ j. In r (ownBooks d j xs)) (omega arith) h
 book-later m (Print c k msg now room) xs d n n′ r goes e h = subst (λ j. In r (ownBooks d j xs)) (omega arith) h
-book-later m (Subscribe c now) xs d n n′ r goes e h = absurd goes
+book-later m (Subscribe c limit now) xs d n n′ r goes e h = absurd goes
 book-later m (Snapshot c i msg now room) xs d n n′ r goes e h = absurd goes
 book-later m (Drop c now room) xs d n n′ r goes e h = absurd goes
 book-later m (Promote now room) xs d n n′ r goes e h = absurd goes
@@ -97,7 +97,7 @@ print-later : (x : Call) (xs : List Call) (d : ℕ) (p : Key × ℕ) → In p (o
 unfolding ownPrints
 print-later (Print c k msg now room) xs d p h = by-cond (In p) (eqb c d) (λ e. inr h) (λ e. h)
 print-later (BookEvent c k msg now room) xs d p h = h
-print-later (Subscribe c now) xs d p h = h
+print-later (Subscribe c limit now) xs d p h = h
 print-later (Snapshot c i msg now room) xs d p h = h
 print-later (Drop c now room) xs d p h = h
 print-later (Promote now room) xs d p h = h

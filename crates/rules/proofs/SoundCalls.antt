@@ -8,25 +8,26 @@ use native.Mathlib.Omega.{arith}
 use native.Mathlib.Nat.{mul-le-mul-right}
 use lib.Dec.{leb, ltb, eqb}
 use lib.ListN.{length, getD, length-append, length-map}
+use borrow.Author.Tests.{not-false}
 use Rattle.rules.specs.declared.Limits.{Limits}
 use Rattle.rules.specs.Lists.{Each, Rising, any, keep, nil}
-use Rattle.rules.specs.Quantities.{Key, areaItems, maxCount, maxNumber, noKey, same, snapshotOut}
+use Rattle.rules.specs.Quantities.{Key, areaItems, maxCount, maxNumber, noKey, same, snapshotOut, within}
 use Rattle.rules.specs.Log.{clear, end, keys, old, stamp}
 use Rattle.rules.specs.Prints.{appliedIn, counted, deliveredIn, removeCounts}
-use Rattle.rules.specs.Lines.{Connection, Failed, InLine, Line, Market, Pending, Waiting, connAt, isFailed, isInLine, itemCount, itemsOf, lineOf, nobody, setConn, setLine, snapshotOf, someone, subscribed, withLines, withLog, withPrints}
+use Rattle.rules.specs.Lines.{Connection, Failed, InLine, Line, Market, Pending, Waiting, connAt, isFailed, isInLine, itemCount, itemsOf, lineOf, nobody, setConn, setLine, snapshotOf, someone, subscribed, waiting, withLine, withLines, withLog, withPrints}
 use Rattle.rules.specs.Place.{fits}
 use Rattle.rules.specs.Entering.{Work, begin, onMarket, pushOut, putOut, sweep, takeOver, tryLineUp}
 use Rattle.rules.specs.Calls.{Answer, Outcome, apply, bookEvent, did, diverged, done, dropConn, dueEnds, dueFor, duplicate, failed, fullLog, fullNumbers, gone, held, holdPrint, ignored, just, kept, noRow, pendingAnew, print, printCounted, promote, refuse, refused, released, reset, snapshot, source, subscribe}
 use Rattle.rules.specs.Tick.{allOut, outOfLine}
 use Rattle.rules.specs.Refusals.{roomNeeded}
-use Rattle.rules.specs.Sound.{holdings, ConnSound, Known, LineSound, Lower, Sound}
-use Rattle.rules.proofs.Tests.{by-cond, by-maybe, eqb-other, ff≢tt, leb-false, ltb-true, or-false-left, or-false-right}
+use Rattle.rules.specs.Sound.{holdings, ConnSound, Known, LimitSound, LineSound, Lower, Sound}
+use Rattle.rules.proofs.Tests.{by-cond, by-maybe, eqb-other, ff≢tt, leb-false, ltb-true, or-false-left, or-false-right, within-both}
 use Rattle.rules.proofs.ListLaws.{each-append, each-at, each-imp, each-keep, each-map, length-keep, rising-kept}
 use Rattle.rules.proofs.PrintsSound.{applyPrint-sound, counted-sound, removeCounts-sound}
 use Rattle.rules.proofs.Invariant.{Sorted, sorted-map}
 use Rattle.rules.proofs.Sweep.{here}
 use Rattle.rules.proofs.CallsKept.{events-snap, source-law, subscribed-each, subscribed-sorted}
-use Rattle.rules.proofs.SoundMoves.{Bound, SoundW, events-le, grow-conns, holdings-bound, setConn-sound, sweep-sound, takeOver-sound, tryLineUp-sound}
+use Rattle.rules.proofs.SoundMoves.{Bound, SoundW, conn-limit, events-le, grow-conns, holdings-bound, setConn-sound, sweep-sound, takeOver-sound, tryLineUp-sound}
 use Rattle.rules.specs.declared.Item.the-variants as Item
 use Rattle.rules.specs.declared.Stamp.the-variants as Stamp
 
@@ -81,6 +82,9 @@ line-at m i l e f s = subst (LineSound (m .limits) (end (m .log))) e ((each-at (
 pub held-at : (m : Market) (i : ℕ) → i < length (m .lines) → Sound m → length ((connAt i m) .held) ≤ m .limits .H
 held-at m i lt s = (each-at (ConnSound (m .limits) (end (m .log))) (m .lines) i nobody lt (s .lines .conns)) .1
 
+pub limit-at : (m : Market) (i : ℕ) → i < length (m .lines) → Sound m → LimitSound (m .limits) (connAt i m)
+limit-at m i lt s = conn-limit (m .limits) (end (m .log)) (m .lines) i lt (s .lines .conns)
+
 -- a line without items, or with no more than it had
 pub shrink : (m : Market) (i : ℕ) (line : Line) (hs : List (Key × ℕ)) → Sound m → i < length (m .lines) → LineSound (m .limits) (end (m .log)) line → length hs ≤ m .limits .H
     → length (itemsOf line) ≤ length (itemsOf ((connAt i m) .line)) → Sound (setConn i line hs m)
@@ -99,20 +103,20 @@ none-above : (c : ℕ) (l : List Connection) → Each (λ y. c < y .conn) l → 
 none-above c [] h = refl
 none-above c (x ∷ xs) h = rw (eqb-other (λ (z : x .conn ≡ c). let t = h .0 in omega arith)) (none-above c xs (h .1))
 
-subscribed-length : (c now : ℕ) (ls : List Connection) → Sorted ls → length (subscribed c now ls) ≤ cond (any (λ s. eqb (s .conn) c) ls) (length ls) (suc (length ls))
+subscribed-length : (c limit now : ℕ) (ls : List Connection) → Sorted ls → length (subscribed c limit now ls) ≤ cond (any (λ s. eqb (s .conn) c) ls) (length ls) (suc (length ls))
 unfolding subscribed Rising
-subscribed-length c now [] o = omega arith
-subscribed-length c now (x ∷ xs) o = go (ltb c (x .conn)) refl (eqb (x .conn) c) refl (any (λ s. eqb (s .conn) c) xs) refl (subscribed-length c now xs (o .1))
+subscribed-length c limit now [] o = omega arith
+subscribed-length c limit now (x ∷ xs) o = go (ltb c (x .conn)) refl (eqb (x .conn) c) refl (any (λ s. eqb (s .conn) c) xs) refl (subscribed-length c limit now xs (o .1))
   where
     v : Connection
-    v = record { conn = c; line = Waiting [] now; held = [] }
+    v = waiting c limit now
 
     none : ltb c (x .conn) ≡ true → any (λ s. eqb (s .conn) c) (x ∷ xs) ≡ false
     none p = let lt : c < x .conn = ltb-true p in none-above c (x ∷ xs) (lt, each-imp (λ y. x .conn < y .conn) (λ y. c < y .conn) (λ y t. omega arith) xs (o .0))
 
     go : (p : Bool) → ltb c (x .conn) ≡ p → (q : Bool) → eqb (x .conn) c ≡ q → (r : Bool) → any (λ s. eqb (s .conn) c) xs ≡ r
-        → length (subscribed c now xs) ≤ cond r (length xs) (suc (length xs))
-        → length (cond p (v ∷ x ∷ xs) (cond q (v ∷ xs) (x ∷ subscribed c now xs))) ≤ cond (q || r) (suc (length xs)) (suc (suc (length xs)))
+        → length (subscribed c limit now xs) ≤ cond r (length xs) (suc (length xs))
+        → length (cond p (v ∷ x ∷ xs) (cond q (v ∷ xs) (x ∷ subscribed c limit now xs))) ≤ cond (q || r) (suc (length xs)) (suc (suc (length xs)))
     go true p true q r t h = absurd (ff≢tt (or-false-left (eqb (x .conn) c) (any (λ s. eqb (s .conn) c) xs) (none p)) q)
     go true p false q true t h = absurd (ff≢tt (or-false-right (eqb (x .conn) c) (any (λ s. eqb (s .conn) c) xs) (none p)) t)
     go true p false q false t h = omega arith
@@ -120,10 +124,10 @@ subscribed-length c now (x ∷ xs) o = go (ltb c (x .conn)) refl (eqb (x .conn) 
     go false p false q true t h = omega arith
     go false p false q false t h = omega arith
 
-subscribed-items : (c now : ℕ) (ls : List Connection) → itemCount (subscribed c now ls) ≤ itemCount ls
+subscribed-items : (c limit now : ℕ) (ls : List Connection) → itemCount (subscribed c limit now ls) ≤ itemCount ls
 unfolding subscribed
-subscribed-items c now [] = omega arith
-subscribed-items c now (x ∷ xs) = let h = subscribed-items c now xs in
+subscribed-items c limit now [] = omega arith
+subscribed-items c limit now (x ∷ xs) = let h = subscribed-items c limit now xs in
     by-cond (λ (l : List Connection). itemCount l ≤ itemCount (x ∷ xs)) (ltb c (x .conn)) (λ e. omega arith)
     (λ e. by-cond (λ (l : List Connection). itemCount l ≤ itemCount (x ∷ xs)) (eqb (x .conn) c) (λ t. omega arith) (λ t. omega arith))
 
@@ -131,19 +135,22 @@ subscribed-items c now (x ∷ xs) = let h = subscribed-items c now xs in
 pub uncounted-sound : (c : ℕ) (m : Market) → Sound m → Sound (withPrints (removeCounts c (m .prints)) m)
 uncounted-sound c m s = record { limitsFit = s .limitsFit; lines = s .lines; prints = removeCounts-sound (m .limits) c (m .prints) (s .prints) }
 
-pub subscribe-safe : (c now : ℕ) (m : Market) → Sound m → Safe (m .limits) (subscribe c now m)
+pub subscribe-safe : (c limit now : ℕ) (m : Market) → Sound m → Safe (m .limits) (subscribe c limit now m)
 unfolding subscribe
-subscribe-safe c now m s =
+subscribe-safe c limit now m s =
     let m′ = withPrints (removeCounts c (m .prints)) m in
-    refuse-safe (m .limits) (not (any (λ x. eqb (x .conn) c) (m .lines)) && leb (m .limits .L) (length (m .lines))) 4
-    (just done (withLines (subscribed c now (m .lines)) m′))
-    (λ q. just-safe (withLines (subscribed c now (m .lines)) m′) done
-    (less-sound m′ (subscribed c now (m .lines)) (uncounted-sound c m s)
-    (fits (any (λ x. eqb (x .conn) c) (m .lines)) q (subscribed-length c now (m .lines) (s .lines .rises)))
-    (subscribed-sorted c now (m .lines) (s .lines .rises))
-    (subscribed-each (ConnSound (m .limits) (end (m .log))) c now (m .lines) ((omega arith, tt), omega arith) (s .lines .conns)) (subscribed-items c now (m .lines))))
+    let full = not (any (λ x. eqb (x .conn) c) (m .lines)) && leb (m .limits .L) (length (m .lines)) in
+    let o = just done (withLines (subscribed c limit now (m .lines)) m′) in
+    refuse-safe (m .limits) (not (within 1 (m .limits .H) limit)) 18 (refuse full 4 o)
+    (λ z. refuse-safe (m .limits) full 4 o
+    (λ q. just-safe (withLines (subscribed c limit now (m .lines)) m′) done
+    (less-sound m′ (subscribed c limit now (m .lines)) (uncounted-sound c m s)
+    (fits (any (λ x. eqb (x .conn) c) (m .lines)) q (subscribed-length c limit now (m .lines) (s .lines .rises)))
+    (subscribed-sorted c limit now (m .lines) (s .lines .rises))
+    (subscribed-each (ConnSound (m .limits) (end (m .log))) c limit now (m .lines)
+    ((omega arith, tt), omega arith, within-both 1 (m .limits .H) limit (not-false _ z)) (s .lines .conns)) (subscribed-items c limit now (m .lines)))))
   where
-    fits : (b : Bool) → (not b && leb (m .limits .L) (length (m .lines))) ≡ false → length (subscribed c now (m .lines)) ≤ cond b (length (m .lines)) (suc (length (m .lines))) → length (subscribed c now (m .lines)) ≤ m .limits .L
+    fits : (b : Bool) → (not b && leb (m .limits .L) (length (m .lines))) ≡ false → length (subscribed c limit now (m .lines)) ≤ cond b (length (m .lines)) (suc (length (m .lines))) → length (subscribed c limit now (m .lines)) ≤ m .limits .L
     fits true q h = let z = s .lines .linesFit in omega arith
     fits false q h = let z : length (m .lines) < m .limits .L = leb-false q in omega arith
 
@@ -153,13 +160,13 @@ map-items f h (x ∷ xs) = let a = h x in let b = map-items f h xs in omega arit
 
 -- lines that keep their connections and held prints, with no more items each
 mapped-sound : (m : Market) (f : Line → Line) → Sound m → ((l : Line) → LineSound (m .limits) (end (m .log)) l → LineSound (m .limits) (end (m .log)) (f l)) → ((l : Line) → length (itemsOf (f l)) ≤ length (itemsOf l))
-    → Sound (withLines (map (λ x. record { conn = x .conn; line = f (x .line); held = x .held }) (m .lines)) m)
+    → Sound (withLines (map (λ x. withLine (f (x .line)) x) (m .lines)) m)
 mapped-sound m f s h k = less-sound m (map F (m .lines)) s
     (let z = s .lines .linesFit in let y = length-map (m .lines) F in omega arith) (sorted-map F (λ x. refl) (m .lines) (s .lines .rises))
-    (each-map (ConnSound (m .limits) (end (m .log))) (ConnSound (m .limits) (end (m .log))) F (λ x t. (h (x .line) (t .0), t .1)) (m .lines) (s .lines .conns)) (map-items F (λ x. k (x .line)) (m .lines))
+    (each-map (ConnSound (m .limits) (end (m .log))) (ConnSound (m .limits) (end (m .log))) F (λ x t. (h (x .line) (t .0), t .1, t .2)) (m .lines) (s .lines .conns)) (map-items F (λ x. k (x .line)) (m .lines))
   where
     F : Connection → Connection
-    F x = record { conn = x .conn; line = f (x .line); held = x .held }
+    F x = withLine (f (x .line)) x
 
 pub reset-sound : (now : ℕ) (m : Market) → Sound m → Sound (reset now m)
 reset-sound now m s = mapped-sound (withLog (clear (m .log)) m) (pendingAnew now) (clear-sound m s) ok less
@@ -280,9 +287,10 @@ book-safe i k msg now m (Waiting is since) e s =
     let il : length (itemsOf ((connAt i m) .line)) ≡ length is = ap (λ (z : Line). length (itemsOf z)) e in
     let ln : length is′ ≡ length is + 1 = length-append is (Item.Event k msg ∷ []) in
     let o = just held (setLine i (Waiting is′ since) m) in
-    by-cond (Safe l) (leb (l .H) (length is))
+    by-cond (Safe l) (leb ((connAt i m) .limit) (length is))
     (λ q. just-safe (setLine i Failed m) failed (shrink m i Failed ((connAt i m) .held) s lt tt (held-at m i lt s) (omega arith)))
-    (λ q. let room : length is < l .H = leb-false q in
+    (λ q. let room : length is < (connAt i m) .limit = leb-false q in
+    let limit = limit-at m i lt s .1 in
     refuse-safe l (fullLog m) 5 (refuse (fullNumbers m) 9 o) (λ q₅. refuse-safe l (fullNumbers m) 9 o (λ q₉.
     just-safe (setLine i (Waiting is′ since) m) held
     (store m i (Waiting is′ since) s lt (omega arith, each-append Known is (Item.Event k msg ∷ []) (old .1) (tt, tt)) (omega arith) q₅ q₉))))
@@ -296,9 +304,10 @@ book-safe i k msg now m (Pending is at since) e s =
     let m₁ = setLine i (Pending is′ at since) m in
     let w = tryLineUp false i now (begin m₁) in
     let o = released (cond (isInLine ((connAt i (w .market)) .line)) duplicate held) now w in
-    by-cond (Safe l) (leb (l .H) (length is))
+    by-cond (Safe l) (leb ((connAt i m) .limit) (length is))
     (λ q. just-safe (setLine i Failed m) failed (shrink m i Failed ((connAt i m) .held) s lt tt (held-at m i lt s) (omega arith)))
-    (λ q. let room : length is < l .H = leb-false q in
+    (λ q. let room : length is < (connAt i m) .limit = leb-false q in
+    let limit = limit-at m i lt s .1 in
     refuse-safe l (fullLog m) 5 (refuse (fullNumbers m) 9 o) (λ q₅. refuse-safe l (fullNumbers m) 9 o (λ q₉.
     released-safe l (cond (isInLine ((connAt i (w .market)) .line)) duplicate held) now w
     (tryLineUp-sound (roomFor l) false i now (begin m₁) (begin-sound m₁
@@ -328,9 +337,10 @@ unfolding holdPrint
 holdPrint-safe i k msg m l e f s =
     let lt = here i m l e f in
     by-cond (Safe (m .limits)) (any (λ h. same (h .0) k) ((connAt i m) .held)) (λ q. just-safe m held s)
-    (λ q. by-cond (Safe (m .limits)) (leb (m .limits .H) (length ((connAt i m) .held)))
+    (λ q. by-cond (Safe (m .limits)) (leb ((connAt i m) .limit) (length ((connAt i m) .held)))
     (λ r. just-safe (setConn i Failed [] m) failed (shrink m i Failed [] s lt tt (omega arith) (omega arith)))
-    (λ r. let z : length ((connAt i m) .held) < m .limits .H = leb-false r in
+    (λ r. let z : length ((connAt i m) .held) < (connAt i m) .limit = leb-false r in
+    let limit = limit-at m i lt s .1 in
     let y = length-append ((connAt i m) .held) ((k, msg) ∷ []) in
     just-safe (setConn i ((connAt i m) .line) ((connAt i m) .held ++ ((k, msg) ∷ [])) m) held
     (shrink m i ((connAt i m) .line) ((connAt i m) .held ++ ((k, msg) ∷ [])) s lt

@@ -14,12 +14,12 @@ use Rattle.rules.specs.Lists.{Each, any, maybe, sum}
 use Rattle.rules.specs.Quantities.{Key, bookOut, maxNumber, printOut, snapshotOut}
 use Rattle.rules.specs.Log.{Log, end, keys, stamp}
 use Rattle.rules.specs.Prints.{appliedIn, applyPrint, deliveredIn}
-use Rattle.rules.specs.Lines.{Connection, Failed, InLine, Line, Market, Pending, Waiting, connAt, eventKeys, events, fresh, itemCount, itemsOf, nobody, setConn, snapshotOf, someDue, withLog, withPrints}
+use Rattle.rules.specs.Lines.{Connection, Failed, InLine, Line, Market, Pending, Waiting, connAt, eventKeys, events, fresh, itemCount, itemsOf, nobody, setConn, snapshotOf, someDue, withHeld, withLine, withLog, withPrints}
 use Rattle.rules.specs.Place.{Place, alignment}
 use Rattle.rules.specs.Entering.{Work, aligns, enter, lineUp, noteEntry, onMarket, pendings, pushAll, pushOut, putItems, putOut, release, round, rounds, sweep, takeOver, tryLineUp}
-use Rattle.rules.specs.Sound.{holds, holdings, ConnSound, LineSound, LinesSound, PrintsSound, Sound}
+use Rattle.rules.specs.Sound.{holds, holdings, ConnSound, LimitSound, LineSound, LinesSound, PrintsSound, Sound}
 use Rattle.rules.proofs.Tests.{by-cond, by-maybe, none≢some}
-use Rattle.rules.proofs.ListLaws.{each-imp, each-set}
+use Rattle.rules.proofs.ListLaws.{each-at, each-imp, each-set}
 use Rattle.rules.proofs.PrintsSound.{applyPrint-sound, delivered-fits}
 use Rattle.rules.proofs.Invariant.{sorted-set}
 use Rattle.rules.proofs.Moves.{alignment-fits}
@@ -63,8 +63,11 @@ grow-line l e e′ (Pending is at since) q t = t
 grow-line l e e′ (InLine n a b) q t = omega arith
 grow-line l e e′ Failed q t = tt
 
+pub conn-limit : (l : Limits) (e : ℕ) (ls : List Connection) (i : ℕ) → i < length ls → Each (ConnSound l e) ls → LimitSound l (getD ls i nobody)
+conn-limit l e ls i lt h = (each-at (ConnSound l e) ls i nobody lt h) .2
+
 pub grow-conns : (l : Limits) (e e′ : ℕ) (ls : List Connection) → e ≤ e′ → Each (ConnSound l e) ls → Each (ConnSound l e′) ls
-grow-conns l e e′ ls q h = each-imp (ConnSound l e) (ConnSound l e′) (λ s t. (grow-line l e e′ (s .line) q (t .0), t .1)) ls h
+grow-conns l e e′ ls q h = each-imp (ConnSound l e) (ConnSound l e′) (λ s t. (grow-line l e e′ (s .line) q (t .0), t .1, t .2)) ls h
 
 -- ---- release
 
@@ -166,7 +169,7 @@ pub enter-sound : (Z : Bound) (w w′ : Work) (k o i e n : ℕ) (a b : Bool) →
 unfolding enter
 enter-sound Z w w′ k o i e n a b li₀ s p lt sp kl nl =
     let ls = w .market .lines in
-    let v : Connection = record { conn = (connAt i (w .market)) .conn; line = InLine n a b; held = [] } in
+    let v : Connection = withLine (InLine n a b) (withHeld [] (connAt i (w .market))) in
     let l = w .market .limits in
     let en = length (w .market .log .entries) in
     let ba = w .market .log .base in
@@ -189,7 +192,7 @@ enter-sound Z w w′ k o i e n a b li₀ s p lt sp kl nl =
     let lined : LinesSound l ba (en + k) (set ls i v) = record {
       linesFit = (let z = length-set ls i v in omega arith);
       rises = sorted-set nobody ls i v refl (li .rises);
-      conns = each-set (ConnSound l (ba + (en + k))) ls i v (nl, omega arith) (grow-conns l (ba + en) (ba + (en + k)) ls (omega arith) (li .conns));
+      conns = each-set (ConnSound l (ba + (en + k))) ls i v (nl, omega arith, conn-limit l (ba + en) ls i lt (li .conns)) (grow-conns l (ba + en) (ba + (en + k)) ls (omega arith) (li .conns));
       logFits = omega arith;
       numbersFit = omega arith;
     } in
@@ -268,7 +271,7 @@ pub setConn-sound : (m : Market) (i : ℕ) (line : Line) (hs : List (Key × ℕ)
     → end (m .log) + itemCount (m .lines) + length (itemsOf line) ≤ maxNumber + length (itemsOf ((connAt i m) .line))
     → Sound (setConn i line hs m)
 setConn-sound m i line hs s lt ok hh g n =
-    let v : Connection = record { conn = (connAt i m) .conn; line = line; held = hs } in
+    let v : Connection = withLine line (withHeld hs (connAt i m)) in
     let ls = m .lines in
     let ic : itemCount (set ls i v) + length (itemsOf ((connAt i m) .line)) ≡ itemCount ls + length (itemsOf line) = sum-set (λ x. length (itemsOf (x .line))) ls i v lt in
     let li = s .lines in
@@ -278,7 +281,7 @@ setConn-sound m i line hs s lt ok hh g n =
       lines = record {
         linesFit = (let z = length-set ls i v in omega arith);
         rises = sorted-set nobody ls i v refl (li .rises);
-        conns = each-set (ConnSound (m .limits) (end (m .log))) ls i v (ok, hh) (li .conns);
+        conns = each-set (ConnSound (m .limits) (end (m .log))) ls i v (ok, hh, conn-limit (m .limits) (end (m .log)) ls i lt (li .conns)) (li .conns);
         logFits = omega arith;
         numbersFit = omega arith;
       };

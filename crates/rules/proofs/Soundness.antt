@@ -13,7 +13,7 @@ use Rattle.rules.specs.declared.Stamp.{Stamp}
 use Rattle.rules.specs.Lists.{Rising, isSome, nil}
 use Rattle.rules.specs.Quantities.{age, alignTimeout, inRange, wordsNeeded}
 use Rattle.rules.specs.Log.{end, old}
-use Rattle.rules.specs.Lines.{Connection, Failed, InLine, Line, Market, Pending, Waiting, connAt, events, fresh, isFailed, itemsOf, lineOf, nobody, someDue, someone}
+use Rattle.rules.specs.Lines.{Connection, Failed, InLine, Line, Market, Pending, Waiting, connAt, events, fresh, isFailed, itemsOf, lineOf, nobody, someDue, someone, withHeld, withLine}
 use Rattle.rules.specs.Entering.{Work, aligns, begin, onMarket, sweep, takeOver, tryLineUp}
 use Rattle.rules.specs.Calls.{Outcome, bookEvent, did, done, dropConn, just, print, promote, refuse, refused, reset, snapshot}
 use Rattle.rules.specs.Tick.{Turn, allOut, fails, on, outOfLine, quietLineUp, quietly, rebuildFrom, reportAligned, stop, tick, timeOut, turn, turns, upkeep}
@@ -54,7 +54,7 @@ fails-safe : (Z : Bound) (i : ℕ) (w : Work) (l : Line) → (connAt i (w .marke
 fails-safe Z i w l e f s =
     let m = w .market in
     let lt = here i m l e f in
-    let v : Connection = record { conn = (connAt i m) .conn; line = Failed; held = [] } in
+    let v : Connection = withLine Failed (withHeld [] (connAt i m)) in
     let p : holdings (set (m .lines) i v) + holds (connAt i m) ≡ holdings (m .lines) + 0 = sum-set holds (m .lines) i v lt in
     let sp = s .spent in
     (record { sound = shrink m i Failed [] (s .sound) lt tt (omega arith) (omega arith); limits = s .limits; spent = omega arith }, omega arith)
@@ -78,7 +78,7 @@ rebuild-safe Z i is at since now w e s =
     (sweep-sound Z now (takeOver i is now w₁) (takeOver-sound Z i is now w₁ (omega arith) (omega arith) (omega arith) (s .limits) (out-sound now m (s .sound))), omega arith)
   where
     F : Connection → Connection
-    F x = record { conn = x .conn; line = outOfLine now (x .line); held = x .held }
+    F x = withLine (outOfLine now (x .line)) x
 
     less : (l : Line) (h : ℕ) → length (itemsOf (outOfLine now l)) + h ≤ length (itemsOf l) + h
     less (Waiting is since) h = omega arith
@@ -135,7 +135,7 @@ turns-safe l (suc n) i due answers now rs w s h =
 -- a sound market stays sound; its records fit the room asked for, its reports L
 pub step-safe : (x : Call) (m : Market) → Sound m → Safe (m .limits) (step x m)
 unfolding step tick
-step-safe (Subscribe c now) m s = subscribe-safe c now m s
+step-safe (Subscribe c limit now) m s = subscribe-safe c limit now m s
 step-safe (Snapshot c t msg now room) m s =
     let o = snapshot (lineOf c m) t msg now m ((connAt (lineOf c m) m) .line) in
     refuse-safe (m .limits) (ltb 1 t) 10 (refuse (short room m) 3 o)

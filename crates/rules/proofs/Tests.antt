@@ -9,7 +9,7 @@ use lib.Dec.{T, leb, ltb, eqb, leb→le, nleb→lt, ltb→lt, nltb→le, eqb→e
 use Rattle.rules.specs.declared.Stamp.{Stamp}
 use Rattle.rules.specs.declared.Stamp.the-variants as Stamp
 use Rattle.rules.specs.Lists.{maybe}
-use Rattle.rules.specs.Quantities.{stamped}
+use Rattle.rules.specs.Quantities.{stamped, within}
 
 pub T-of : {b : Bool} → b ≡ true → T b
 T-of e = subst T (sym e) tt
@@ -72,6 +72,9 @@ and-true-left false b e = e
 pub and-true-right : (a b : Bool) → (a && b) ≡ true → b ≡ true
 and-true-right true b e = e
 and-true-right false b e = absurd (ff≢tt refl e)
+
+pub within-both : (a b n : ℕ) → within a b n ≡ true → (a ≤ n) × (n ≤ b)
+within-both a b n e = (leb-true (and-true-left (leb a n) (leb n b) e), leb-true (and-true-right (leb a n) (leb n b) e))
 
 pub by-stamped : {B : Type 0} (P : B → Type 0) (o : Stamp) {b : B} {f : ℕ → B} → P b → ((t : ℕ) → P (f t)) → P (stamped b f o)
 by-stamped P Stamp.Never x g = x

@@ -12,7 +12,7 @@ use Rattle.rules.specs.declared.Stamp.{Stamp}
 use Rattle.rules.specs.Lists.{isSome, nil}
 use Rattle.rules.specs.Quantities.{Key, age, alignTimeout}
 use Rattle.rules.specs.Log.{clear, end, keys, old}
-use Rattle.rules.specs.Lines.{Connection, Failed, InLine, Line, Market, Pending, Waiting, connAt, eventKeys, events, isFailed, nobody, someDue, someone, withLog}
+use Rattle.rules.specs.Lines.{Connection, Failed, InLine, Line, Market, Pending, Waiting, connAt, eventKeys, events, isFailed, nobody, someDue, someone, withLine, withLog}
 use Rattle.rules.specs.Entering.{Work, aligns, begin, onMarket, takeOver, tryLineUp}
 use Rattle.rules.specs.Calls.{did, done}
 use Rattle.rules.specs.Tick.{Turn, allOut, fails, on, outOfLine, quietLineUp, quietly, rebuildFrom, stop, tick, timeOut, turn, turns, upkeep}
@@ -61,7 +61,7 @@ module _ (s : ℕ) (B : List (ℕ × Key)) (E : ℕ → ℕ) where
       sweep-good s B T E now (takeOver i is now w₁) (takeOver-good s B T E i is now w₁ lt₁ suf g₁)
     where
       f : Connection → Connection
-      f x = record { conn = x .conn; line = outOfLine now (x .line); held = x .held }
+      f x = withLine (outOfLine now (x .line)) x
 
       un : (x : Connection) (l : Line) → LineOk s (keysOf (B ++ books (w .out))) (T (x .conn)) (nowEntered (w .entered) E (x .conn)) l
           → LineOk s (keysOf (B ++ books (w .out))) (T (x .conn)) (nowEntered (w .entered) E (x .conn)) (outOfLine now l)

@@ -10,10 +10,10 @@ use Rattle.rules.specs.declared.Stamp.the-variants as Stamp
 use Rattle.rules.specs.declared.Item.the-variants as Item
 use Rattle.rules.specs.declared.Expired.{Expired}
 use Rattle.rules.specs.Lists.{keep, any, nil, maybe}
-use Rattle.rules.specs.Quantities.{Key, noKey, same, stamped, maxCount, maxNumber, areaItems, snapshotOut, printOut}
+use Rattle.rules.specs.Quantities.{Key, noKey, same, stamped, within, maxCount, maxNumber, areaItems, snapshotOut, printOut}
 use Rattle.rules.specs.Log.{keys, end, stamp, clear}
 use Rattle.rules.specs.Prints.{Prints, ofKey, ofPair, appliedIn, deliveredIn, counted, applyPrint, removeCounts}
-use Rattle.rules.specs.Lines.{Line, Waiting, Pending, InLine, Failed, Connection, Market, snapshotOf, isSnapshot, itemsOf, isInLine, isFailed, someone, itemCount, lineOf, connAt, withLog, withPrints, withLines, setConn, setLine, subscribed}
+use Rattle.rules.specs.Lines.{Line, Waiting, Pending, InLine, Failed, Connection, Market, snapshotOf, isSnapshot, itemsOf, isInLine, isFailed, someone, itemCount, lineOf, connAt, withLog, withPrints, withLines, withLine, setConn, setLine, subscribed}
 use Rattle.rules.specs.Entering.{Work, begin, onMarket, putOut, pushOut, takeOver, tryLineUp, sweep}
 
 pub data Answer : Type 0 where
@@ -39,11 +39,16 @@ fullLog m = leb (m .limits .G) (length (m .log .entries) + itemCount (m .lines))
 abbrev pub fullNumbers : Market → Bool
 fullNumbers m = leb maxNumber (end (m .log) + itemCount (m .lines))
 
--- ---- Subscribe: the line is new; request 1: the connection's delivered counts go
-unfoldable pub subscribe : ℕ → ℕ → Market → Outcome
-subscribe c now m =
-    refuse (not (any (λ s. eqb (s .conn) c) (m .lines)) && leb (m .limits .L) (length (m .lines))) 4
-    (just done (withLines (subscribed c now (m .lines)) (withPrints (removeCounts c (m .prints)) m)))
+-- request 5: so many are the i-th line's limit or more
+abbrev pub atLimit : ℕ → Market → ℕ → Bool
+atLimit i m n = leb ((connAt i m) .limit) n
+
+-- ---- Subscribe: the line is new; request 1: the connection's delivered counts go; request 5: with the line's limit, 1 to H
+unfoldable pub subscribe : ℕ → ℕ → ℕ → Market → Outcome
+subscribe c limit now m =
+    refuse (not (within 1 (m .limits .H) limit)) 18
+    (refuse (not (any (λ s. eqb (s .conn) c) (m .lines)) && leb (m .limits .L) (length (m .lines))) 4
+    (just done (withLines (subscribed c limit now (m .lines)) (withPrints (removeCounts c (m .prints)) m))))
 
 -- ---- Snapshot
 abbrev pub dueFor : ℕ → Bool → Bool → Bool
@@ -78,16 +83,16 @@ snapshot i t msg now m (Waiting is since) =
 snapshot i t msg now m (Pending is at since) = just ignored m
 snapshot i t msg now m Failed = just ignored m
 
--- ---- Book event
+-- ---- Book event; request 5: a line fails by its own limit
 unfoldable pub bookEvent : ℕ → Key → ℕ → ℕ → Market → Line → Outcome
 bookEvent i k msg now m Failed = just ignored m
 bookEvent i k msg now m (Waiting is since) =
-    cond (leb (m .limits .H) (length is)) (just failed (setLine i Failed m))
+    cond (atLimit i m (length is)) (just failed (setLine i Failed m))
     (refuse (fullLog m) 5
     (refuse (fullNumbers m) 9
     (just held (setLine i (Waiting (is ++ (Item.Event k msg ∷ [])) since) m))))
 bookEvent i k msg now m (Pending is at since) =
-    cond (leb (m .limits .H) (length is)) (just failed (setLine i Failed m))
+    cond (atLimit i m (length is)) (just failed (setLine i Failed m))
     (refuse (fullLog m) 5
     (refuse (fullNumbers m) 9
     (let w = tryLineUp false i now (begin (setLine i (Pending (is ++ (Item.Event k msg ∷ [])) at since) m)) in
@@ -103,12 +108,13 @@ bookEvent i k msg now m (InLine n a b) =
     (did apply [] (sweep now (onMarket (setLine i (InLine (suc n) a b)) (pushOut ((connAt i m) .conn) now k msg (begin m))))))))
 
 -- ---- Print
--- not in line, delivered > applied: the key and message are held once per line; if the key is not held and H are, the line's prints go, Failed
+-- not in line, delivered > applied: the key and message are held once per line; if the key is not held and the line's limit of prints or
+-- more are (request 5), the line's prints go, Failed
 unfoldable pub holdPrint : ℕ → Key → ℕ → Market → Outcome
 holdPrint i k msg m =
     let hs = (connAt i m) .held in
     cond (any (λ h. same (h .0) k) hs) (just held m)
-    (cond (leb (m .limits .H) (length hs))
+    (cond (atLimit i m (length hs))
     (just failed (setConn i Failed [] m))
     (just held (setConn i ((connAt i m) .line) (hs ++ ((k, msg) ∷ [])) m)))
 
@@ -180,7 +186,7 @@ pendingAnew now (InLine n a b) = Pending [] Stamp.Never now
 pendingAnew now Failed = Failed
 
 abbrev pub eachLine : (Line → Line) → Market → Market
-eachLine f m = withLines (map (λ s. record { conn = s .conn; line = f (s .line); held = s .held }) (m .lines)) m
+eachLine f m = withLines (map (λ s. withLine (f (s .line)) s) (m .lines)) m
 
 abbrev pub reset : ℕ → Market → Market
 reset now m = eachLine (pendingAnew now) (withLog (clear (m .log)) m)

@@ -14,7 +14,7 @@ use Rattle.rules.specs.Lists.{keep, any, sum, largest, count, Each, In}
 use Rattle.rules.specs.Quantities.{Key, same, bookOut}
 use Rattle.rules.specs.Log.{Log, keys, end, push}
 use Rattle.rules.specs.Prints.{ofKey, ofPair, appliedIn, touchedIn, deliveredIn}
-use Rattle.rules.specs.Lines.{Line, Waiting, Pending, InLine, Failed, Connection, Market, fresh, isPending, isInLine, lineFor}
+use Rattle.rules.specs.Lines.{Line, Waiting, Pending, InLine, Failed, Connection, Market, fresh, isPending, isInLine, lineFor, withLine}
 use Rattle.rules.specs.Calls.{Answer, done, apply, duplicate, held, ignored, diverged, failed, kept, gone, rebuild, Outcome, refused, did}
 use Rattle.rules.specs.Refusals.{Call, Subscribe, Snapshot, BookEvent, Print, Drop, Promote, Reset, Tick, step}
 use Rattle.rules.specs.Answers.{Said, number, word, saidBy}
@@ -59,7 +59,7 @@ abbrev pub replace : {A : Type 0} → (ℕ → A) → ℕ → A → ℕ → A
 replace f c v x = cond (eqb x c) v (f x)
 
 abbrev pub nowTaken : Call → Answer → (ℕ → List Key) → ℕ → List Key
-nowTaken (Subscribe c now) a t = t
+nowTaken (Subscribe c limit now) a t = t
 nowTaken (Snapshot c i msg now room) a t = t
 nowTaken (BookEvent c k msg now room) a t = cond (isTaken a) (replace t c (t c ++ (k ∷ []))) t
 nowTaken (Print c k msg now room) a t = t
@@ -96,7 +96,7 @@ pub record Agreed (start : ℕ) (out taken : List Key) (e n : ℕ) : Type 0 wher
 
 -- who makes a call
 abbrev pub caller : Call → ℕ
-caller (Subscribe c now) = c
+caller (Subscribe c limit now) = c
 caller (Snapshot c i msg now room) = c
 caller (BookEvent c k msg now room) = c
 caller (Print c k msg now room) = c
@@ -107,7 +107,7 @@ caller (Tick answers now room reports) = 0
 
 -- a book event or print of a connection in line
 abbrev pub Goes : Market → Call → Type 0
-Goes m (Subscribe c now) = ⊥
+Goes m (Subscribe c limit now) = ⊥
 Goes m (Snapshot c i msg now room) = ⊥
 Goes m (BookEvent c k msg now room) = isInLine (lineFor c m) ≡ true
 Goes m (Print c k msg now room) = isInLine (lineFor c m) ≡ true
@@ -118,7 +118,7 @@ Goes m (Tick answers now room reports) = ⊥
 
 -- all of a call but its time
 abbrev pub timeless : Call → Call
-timeless (Subscribe c now) = Subscribe c 0
+timeless (Subscribe c limit now) = Subscribe c limit 0
 timeless (Snapshot c i msg now room) = Snapshot c i msg 0 room
 timeless (BookEvent c k msg now room) = BookEvent c k msg 0 room
 timeless (Print c k msg now room) = Print c k msg 0 room
@@ -133,7 +133,7 @@ own c xs = map timeless (keep (λ x. eqb (caller x) c) xs)
 
 -- the keys of a connection's book events
 abbrev pub eventKey : ℕ → Call → List Key → List Key
-eventKey c (Subscribe d now) l = l
+eventKey c (Subscribe d limit now) l = l
 eventKey c (Snapshot d i msg now room) l = l
 eventKey c (BookEvent d k msg now room) l = cond (eqb d c) (k ∷ l) l
 eventKey c (Print d k msg now room) l = l
@@ -148,7 +148,7 @@ eventsOf c (x ∷ xs) = eventKey c x (eventsOf c xs)
 
 -- a connection's prints of a key
 abbrev pub isPrint : Key → ℕ → Call → ℕ → ℕ
-isPrint k c (Subscribe d now) n = n
+isPrint k c (Subscribe d limit now) n = n
 isPrint k c (Snapshot d i msg now room) n = n
 isPrint k c (BookEvent d j msg now room) n = n
 isPrint k c (Print d j msg now room) n = cond (same j k && eqb d c) (suc n) n
@@ -223,7 +223,7 @@ nextOf (InLine n a b) = n
 nextOf Failed = 0
 
 abbrev pub advanced : (ℕ → ℕ) → Connection → Connection
-advanced f s = record { conn = s .conn; line = forward (f (s .conn)) (s .line); held = s .held }
+advanced f s = withLine (forward (f (s .conn)) (s .line)) s
 
 -- the largest of end and the reaches
 unfoldable pub farthest : Market → (ℕ → ℕ) → ℕ
@@ -254,7 +254,7 @@ numbered n (k ∷ ks) = (n, k) ∷ numbered (suc n) ks
 
 -- a connection's own book events as records, numbered from n, each with its call's message
 abbrev pub ownBook : ℕ → ℕ → Call → (ℕ → List Applied) → List Applied
-ownBook c n (Subscribe d now) l = l n
+ownBook c n (Subscribe d limit now) l = l n
 ownBook c n (Snapshot d i msg now room) l = l n
 ownBook c n (BookEvent d k msg now room) l = cond (eqb d c) (bookOut c n k msg ∷ l (suc n)) (l n)
 ownBook c n (Print d k msg now room) l = l n
@@ -269,7 +269,7 @@ ownBooks c n (x ∷ xs) = ownBook c n x (λ j. ownBooks c j xs)
 
 -- a connection's own prints: key and message
 abbrev pub ownPrint : ℕ → Call → List (Key × ℕ) → List (Key × ℕ)
-ownPrint c (Subscribe d now) l = l
+ownPrint c (Subscribe d limit now) l = l
 ownPrint c (Snapshot d i msg now room) l = l
 ownPrint c (BookEvent d k msg now room) l = l
 ownPrint c (Print d k msg now room) l = cond (eqb d c) ((k, msg) ∷ l) l
@@ -301,7 +301,7 @@ recordCount (word a records reports) = records
 
 -- a book event that is put out is pushed at its time
 abbrev pub pushedBy : Call → Said → Log → Log
-pushedBy (Subscribe c now) a l = l
+pushedBy (Subscribe c limit now) a l = l
 pushedBy (Snapshot c i msg now room) a l = l
 pushedBy (BookEvent c k msg now room) a l = cond (ltb 0 (recordCount a)) (push k now l) l
 pushedBy (Print c k msg now room) a l = l
@@ -321,7 +321,7 @@ touchedOf k m = touchedIn k (m .prints .keyRows)
 
 -- a print touches its key
 abbrev pub touchedBy : Key → Call → ℕ → ℕ
-touchedBy k (Subscribe c now) t = t
+touchedBy k (Subscribe c limit now) t = t
 touchedBy k (Snapshot c i msg now room) t = t
 touchedBy k (BookEvent c j msg now room) t = t
 touchedBy k (Print c j msg now room) t = cond (same j k) now t

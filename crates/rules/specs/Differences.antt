@@ -14,17 +14,17 @@ use Rattle.rules.specs.Quantities.{key}
 use Rattle.rules.specs.Lines.{Pending, InLine}
 use Rattle.rules.specs.Calls.{done, apply, duplicate, held, ignored, diverged, failed, kept, rebuild}
 use Rattle.rules.specs.Refusals.{Call, Subscribe, Drop, Promote, Reset}
-use Rattle.rules.specs.Points.{answer, eventAt, event, snap, printAt, printOf, tickAt, joins, pqrs, putSnap, putEvent, putPrint, Row, saysWith, says, leaves, bases, serves, two}
+use Rattle.rules.specs.Points.{answer, eventAt, event, snap, printAt, printOf, tickAt, limited, subscribes, joins, pqrs, putSnap, putEvent, putPrint, Row, saysWith, says, leaves, bases, serves, two}
 
 -- ---- how the lists begin
 
 -- a subscription with token 0's snapshot alone: in line, still due token 1, where nobody was
 unfoldable pub starts : ℕ → List Call
-starts c = Subscribe c 0 ∷ snap c 0 0 ∷ []
+starts c = subscribes c ∷ snap c 0 0 ∷ []
 
 -- a pending line without a snapshot time
 unfoldable pub resets : ℕ → List Call
-resets c = Subscribe c 0 ∷ Reset 0 ∷ []
+resets c = subscribes c ∷ Reset 0 ∷ []
 
 -- p, four times, at a time
 unfoldable pub pppp : ℕ → ℕ → List Call
@@ -37,32 +37,32 @@ both is = Item.Snapshot 0 0 ∷ Item.Snapshot 1 0 ∷ is
 -- ---- the lists
 
 unfoldable pub resubscribed : List Call
-resubscribed = Subscribe 1 0 ∷ printOf 1 1 ∷ Subscribe 1 0 ∷ snap 1 0 0 ∷ printOf 1 1 ∷ []
+resubscribed = subscribes 1 ∷ printOf 1 1 ∷ subscribes 1 ∷ snap 1 0 0 ∷ printOf 1 1 ∷ []
 
 unfoldable pub secondCopy : List Call
-secondCopy = starts 1 ++ (Subscribe 2 0 ∷ printOf 2 1 ∷ printOf 1 1 ∷ [])
+secondCopy = starts 1 ++ (subscribes 2 ∷ printOf 2 1 ∷ printOf 1 1 ∷ [])
 
 unfoldable pub lateCopies : List Call
-lateCopies = starts 1 ++ (printOf 1 1 ∷ printAt 1 1 40000 ∷ tickAt 60000 (0 ∷ []) ∷ Subscribe 2 60000 ∷ printAt 2 1 60000 ∷ printAt 2 1 60000 ∷ [])
+lateCopies = starts 1 ++ (printOf 1 1 ∷ printAt 1 1 40000 ∷ tickAt 60000 (0 ∷ []) ∷ Subscribe 2 16 60000 ∷ printAt 2 1 60000 ∷ printAt 2 1 60000 ∷ [])
 
 -- 2 pending, with a print held
 unfoldable pub printHeld : List Call
-printHeld = joins 1 0 ++ (Subscribe 2 0 ∷ printOf 2 1 ∷ snap 2 0 0 ∷ snap 2 1 0 ∷ [])
+printHeld = joins 1 0 ++ (subscribes 2 ∷ printOf 2 1 ∷ snap 2 0 0 ∷ snap 2 1 0 ∷ [])
 
 unfoldable pub firstDelivery : List Call
 firstDelivery = starts 1 ++ starts 2 ++ (event 2 1 ∷ event 1 1 ∷ Drop 1 0 1000 ∷ [])
 
 unfoldable pub completed : List Call
-completed = joins 1 0 ++ pqrs 1 ++ (Subscribe 2 0 ∷ []) ++ pqrs 2 ++ (snap 2 0 0 ∷ snap 2 1 0 ∷ [])
+completed = joins 1 0 ++ pqrs 1 ++ (subscribes 2 ∷ []) ++ pqrs 2 ++ (snap 2 0 0 ∷ snap 2 1 0 ∷ [])
 
 unfoldable pub disagreeing : List Call
 disagreeing = two ++ (eventAt 1 1 1000 ∷ eventAt 2 2 1000 ∷ eventAt 1 3 1000 ∷ [])
 
 unfoldable pub fullOfItems : List Call
-fullOfItems = starts 1 ++ starts 2 ++ (event 2 1 ∷ [])
+fullOfItems = limited 1 1 ∷ snap 1 0 0 ∷ limited 2 1 ∷ snap 2 0 0 ∷ event 2 1 ∷ []
 
 unfoldable pub fullOfPrints : List Call
-fullOfPrints = Subscribe 1 0 ∷ printOf 1 1 ∷ printOf 1 2 ∷ []
+fullOfPrints = limited 1 1 ∷ printOf 1 1 ∷ printOf 1 2 ∷ []
 
 unfoldable pub runInside : List Call
 runInside = resets 2 ++ joins 1 0 ++ (event 1 5 ∷ pqrs 1) ++ (event 2 6 ∷ pqrs 2)
@@ -86,11 +86,11 @@ clockBack = starts 1 ++ (event 1 1 ∷ eventAt 1 2 20000 ∷ event 1 3 ∷ tickA
 unfoldable pub behindLog : List Call
 behindLog =
     joins 1 0 ++ (event 1 1 ∷ eventAt 1 2 5000 ∷ tickAt 10001 (0 ∷ []) ∷ [])
-    ++ (Subscribe 2 10001 ∷ snap 2 0 10001 ∷ snap 2 1 10001 ∷ eventAt 2 1 10001 ∷ eventAt 2 2 10001 ∷ tickAt 11001 (0 ∷ 1 ∷ []) ∷ [])
+    ++ (Subscribe 2 16 10001 ∷ snap 2 0 10001 ∷ snap 2 1 10001 ∷ eventAt 2 1 10001 ∷ eventAt 2 2 10001 ∷ tickAt 11001 (0 ∷ 1 ∷ []) ∷ [])
 
 unfoldable pub sweptInTick : List Call
 sweptInTick =
-    (Subscribe 2 0 ∷ resets 3) ++ joins 1 0 ++ (event 1 1 ∷ pppp 1 1) ++ pppp 2 1 ++ pppp 3 1
+    (subscribes 2 ∷ resets 3) ++ joins 1 0 ++ (event 1 1 ∷ pppp 1 1) ++ pppp 2 1 ++ pppp 3 1
     ++ (printAt 3 2 1 ∷ tickAt 10001 (0 ∷ 0 ∷ 0 ∷ []) ∷ [])
 
 unfoldable pub partOfSnapshot : List Call
@@ -103,13 +103,13 @@ unfoldable pub rebuilt : List Call
 rebuilt = starts 1 ++ joins 2 0 ++ (tickAt 10000 (0 ∷ 0 ∷ []) ∷ [])
 
 unfoldable pub lastFails : List Call
-lastFails = two ++ (eventAt 2 1 1000 ∷ Subscribe 2 2000 ∷ snap 2 0 2000 ∷ snap 2 1 2000 ∷ tickAt 11001 (0 ∷ 0 ∷ []) ∷ Promote 11001 1000 ∷ [])
+lastFails = two ++ (eventAt 2 1 1000 ∷ Subscribe 2 16 2000 ∷ snap 2 0 2000 ∷ snap 2 1 2000 ∷ tickAt 11001 (0 ∷ 0 ∷ []) ∷ Promote 11001 1000 ∷ [])
 
 unfoldable pub lastResubscribes : List Call
-lastResubscribes = starts 1 ++ joins 2 0 ++ (Subscribe 1 0 ∷ Promote 0 1000 ∷ [])
+lastResubscribes = starts 1 ++ joins 2 0 ++ (subscribes 1 ∷ Promote 0 1000 ∷ [])
 
 unfoldable pub oldLog : List Call
-oldLog = resets 2 ++ starts 1 ++ pqrs 1 ++ (Subscribe 1 0 ∷ Drop 1 0 1000 ∷ []) ++ pqrs 2
+oldLog = resets 2 ++ starts 1 ++ pqrs 1 ++ (subscribes 1 ∷ Drop 1 0 1000 ∷ []) ++ pqrs 2
 
 -- ---- the table
 

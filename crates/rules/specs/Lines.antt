@@ -20,15 +20,16 @@ pub data Line : Type 0 where
   InLine : ℕ → Bool → Bool → Line
   Failed : Line
 
--- a connection's line, and the prints it holds: key and message
+-- a connection's line, its limit (request 5), and the prints it holds: key and message
 pub record Connection : Type 0 where
   pub conn : ℕ
+  pub limit : ℕ
   pub line : Line
   pub held : List (Key × ℕ)
 
 -- whoever has no line answers as one whose line is Failed
 abbrev pub nobody : Connection
-nobody = record { conn = 0; line = Failed; held = [] }
+nobody = record { conn = 0; limit = 0; line = Failed; held = [] }
 
 -- the lines rise by connection; a line is named by its place among them, counted from 0
 pub record Market : Type 0 where
@@ -123,20 +124,27 @@ withPrints p m = record { limits = m .limits; log = m .log; prints = p; lines = 
 abbrev pub withLines : List Connection → Market → Market
 withLines ls m = record { limits = m .limits; log = m .log; prints = m .prints; lines = ls }
 
+-- a connection with another line, or with other held prints; its limit stays (request 5)
+abbrev pub withLine : Line → Connection → Connection
+withLine line s = record { conn = s .conn; limit = s .limit; line = line; held = s .held }
+
+abbrev pub withHeld : List (Key × ℕ) → Connection → Connection
+withHeld hs s = record { conn = s .conn; limit = s .limit; line = s .line; held = hs }
+
 -- the i-th connection's line and held prints replaced; its line alone
 abbrev pub setConn : ℕ → Line → List (Key × ℕ) → Market → Market
-setConn i line hs m = withLines (set (m .lines) i (record { conn = (connAt i m) .conn; line = line; held = hs })) m
+setConn i line hs m = withLines (set (m .lines) i (withLine line (withHeld hs (connAt i m)))) m
 
 abbrev pub setLine : ℕ → Line → Market → Market
 setLine i line m = setConn i line ((connAt i m) .held) m
 
--- Subscribe: held prints go, the line becomes Waiting, empty, since now; the connection's delivered counts go (Calls, request 1);
--- nothing else, even if it was in line
-abbrev pub waiting : ℕ → ℕ → Connection
-waiting c now = record { conn = c; line = Waiting [] now; held = [] }
+-- Subscribe: held prints go, the line becomes Waiting, empty, since now, with the limit that is passed (request 5); the connection's
+-- delivered counts go (Calls, request 1); nothing else, even if it was in line
+abbrev pub waiting : ℕ → ℕ → ℕ → Connection
+waiting c limit now = record { conn = c; limit = limit; line = Waiting [] now; held = [] }
 
-unfoldable pub subscribed : ℕ → ℕ → List Connection → List Connection
-subscribed c now [] = waiting c now ∷ []
-subscribed c now (s ∷ ss) =
-    cond (ltb c (s .conn)) (waiting c now ∷ s ∷ ss)
-    (cond (eqb (s .conn) c) (waiting c now ∷ ss) (s ∷ subscribed c now ss))
+unfoldable pub subscribed : ℕ → ℕ → ℕ → List Connection → List Connection
+subscribed c limit now [] = waiting c limit now ∷ []
+subscribed c limit now (s ∷ ss) =
+    cond (ltb c (s .conn)) (waiting c limit now ∷ s ∷ ss)
+    (cond (eqb (s .conn) c) (waiting c limit now ∷ ss) (s ∷ subscribed c limit now ss))

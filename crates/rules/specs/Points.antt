@@ -14,18 +14,21 @@ use Rattle.rules.specs.declared.Expired.the-variants as Expired
 use Rattle.rules.specs.Lists.{Each}
 use Rattle.rules.specs.Quantities.{key, snapshotOut, bookOut, printOut}
 use Rattle.rules.specs.Prints.{CountRow}
-use Rattle.rules.specs.Lines.{Line, Pending, InLine, Market, fresh, lineOf, connAt}
+use Rattle.rules.specs.Lines.{Line, Waiting, Pending, InLine, Market, fresh, lineOf, connAt, withLines}
 use Rattle.rules.specs.Calls.{Answer, done, apply, duplicate, held, diverged, failed, gone, rebuild, Outcome, refused, did}
-use Rattle.rules.specs.Refusals.{Call, Subscribe, Snapshot, BookEvent, Print, Drop, Tick, step, servable}
+use Rattle.rules.specs.Refusals.{Call, Subscribe, Snapshot, BookEvent, Print, Drop, Reset, Tick, step, servable}
+use Rattle.rules.specs.Sound.{Sound}
 use Rattle.rules.specs.Demand.{marketAfter, after}
 
--- what a point shows: a call's answer with its records and reports; a line; the log's first number; the delivered counts; what servable says
+-- what a point shows: a call's answer with its records and reports; a line; the log's first number; the delivered counts; a line's limit;
+-- what servable says
 pub data Shown : Type 0 where
   refusal : ℕ → Shown
   answer : Answer → List Applied → List Expired → Shown
   line : Line → Shown
   base : ℕ → Shown
   counts : List CountRow → Shown
+  limit : ℕ → Shown
   service : Bool → Shown
 
 abbrev pub shown : Outcome → Shown
@@ -59,9 +62,16 @@ printOf c k = printAt c k 0
 unfoldable pub tickAt : ℕ → List ℕ → Call
 tickAt now answers = Tick answers now 1000 4
 
--- a subscription at time 0, with both snapshots at a time
+-- a subscription at time 0: with this limit, and with limit 16
+unfoldable pub limited : ℕ → ℕ → Call
+limited c n = Subscribe c n 0
+
+unfoldable pub subscribes : ℕ → Call
+subscribes c = limited c 16
+
+-- a subscription, with both snapshots at a time
 unfoldable pub joins : ℕ → ℕ → List Call
-joins c now = Subscribe c 0 ∷ snap c 0 now ∷ snap c 1 now ∷ []
+joins c now = subscribes c ∷ snap c 0 now ∷ snap c 1 now ∷ []
 
 unfoldable pub pqrs : ℕ → List Call
 pqrs c = event c 1 ∷ event c 2 ∷ event c 3 ∷ event c 4 ∷ []
@@ -84,8 +94,11 @@ countOf c k n = record { key = key k k; conn = c; delivered = n }
 abbrev pub Row : Type 0
 Row = Shown × Shown
 
+unfoldable pub saysFrom : Market → List Call → Shown → Row
+saysFrom m xs s = (lastOf m xs (refusal 0), s)
+
 unfoldable pub saysWith : ℕ → List Call → Shown → Row
-saysWith h xs s = (lastOf (fresh (limits h) 0) xs (refusal 0), s)
+saysWith h xs s = saysFrom (fresh (limits h) 0) xs s
 
 unfoldable pub says : List Call → Shown → Row
 says xs s = saysWith 16 xs s
@@ -99,6 +112,9 @@ bases xs n = (base ((after (fresh (limits 16) 0) xs) .log .base), base n)
 unfoldable pub keeps : List Call → List CountRow → Row
 keeps xs rs = (counts ((after (fresh (limits 16) 0) xs) .prints .countRows), counts rs)
 
+unfoldable pub limitedTo : List Call → ℕ → ℕ → Row
+limitedTo xs c n = let m = after (fresh (limits 16) 0) xs in (limit ((connAt (lineOf c m) m) .limit), limit n)
+
 unfoldable pub serves : List Call → Bool → Row
 serves xs b = (service (servable (after (fresh (limits 16) 0) xs)), service b)
 
@@ -108,21 +124,43 @@ two = joins 1 0 ++ joins 2 0 ++ (tickAt 1000 (0 ∷ 1 ∷ []) ∷ [])
 
 -- 2 pending with pqrs, 1 waiting with a snapshot and pqrs, nobody in line any more
 unfoldable pub deserted : List Call
-deserted = joins 3 0 ++ joins 2 0 ++ pqrs 2 ++ (Subscribe 1 0 ∷ snap 1 0 0 ∷ []) ++ pqrs 1 ++ (Subscribe 3 0 ∷ [])
+deserted = joins 3 0 ++ joins 2 0 ++ pqrs 2 ++ (subscribes 1 ∷ snap 1 0 0 ∷ []) ++ pqrs 1 ++ (subscribes 3 ∷ [])
 
 -- 1 delivers the prints 8 and 9, and 2 the print 8
 unfoldable pub delivers : List Call
-delivers = Subscribe 1 0 ∷ Subscribe 2 0 ∷ printOf 1 8 ∷ printOf 2 8 ∷ printOf 1 9 ∷ []
+delivers = subscribes 1 ∷ subscribes 2 ∷ printOf 1 8 ∷ printOf 2 8 ∷ printOf 1 9 ∷ []
 
 -- a print of 1 is put out, and 1 subscribes again and takes over
 unfoldable pub again : List Call
-again = Subscribe 1 0 ∷ snap 1 0 0 ∷ printOf 1 9 ∷ Subscribe 1 0 ∷ snap 1 0 0 ∷ []
+again = subscribes 1 ∷ snap 1 0 0 ∷ printOf 1 9 ∷ subscribes 1 ∷ snap 1 0 0 ∷ []
+
+-- as many lines as there may be
+unfoldable pub fourLines : List Call
+fourLines = subscribes 1 ∷ subscribes 2 ∷ subscribes 3 ∷ subscribes 4 ∷ []
+
+-- snapshots of token 0, more than the limit of 1 and 8
+unfoldable pub tenSnaps : ℕ → List Call
+tenSnaps c =
+    snap c 0 0 ∷ snap c 0 0 ∷ snap c 0 0 ∷ snap c 0 0 ∷ snap c 0 0
+    ∷ snap c 0 0 ∷ snap c 0 0 ∷ snap c 0 0 ∷ snap c 0 0 ∷ snap c 0 0 ∷ []
+
+-- a market that no call made: 1 holds three events and three prints, with a limit of 2
+unfoldable pub overfull : Market
+overfull =
+    withLines
+    (record {
+      conn = 1;
+      limit = 2;
+      line = Waiting (Item.Event (key 1 1) 1 ∷ Item.Event (key 2 2) 2 ∷ Item.Event (key 3 3) 3 ∷ []) 0;
+      held = (key 2 2, 2) ∷ (key 3 3, 3) ∷ (key 4 4, 4) ∷ [];
+    } ∷ [])
+    (fresh (limits 16) 0)
 
 -- the first n calls of the listing
 unfoldable pub listing : ℕ → List Call
 listing n =
     take n
-    (Subscribe 1 0 ∷ Snapshot 1 0 10 0 1000 ∷ BookEvent 1 (key 7 7) 11 0 1000 ∷ Print 1 (key 9 9) 12 0 1000 ∷ Drop 1 0 1000 ∷ [])
+    (subscribes 1 ∷ Snapshot 1 0 10 0 1000 ∷ BookEvent 1 (key 7 7) 11 0 1000 ∷ Print 1 (key 9 9) 12 0 1000 ∷ Drop 1 0 1000 ∷ [])
 
 unfoldable pub points : List Row
 points =
@@ -137,8 +175,8 @@ points =
     ∷ bases (joins 1 0 ++ (event 1 1 ∷ tickAt 10000 (0 ∷ []) ∷ [])) 0
     ∷ bases (joins 1 0 ++ (event 1 1 ∷ tickAt 10001 (0 ∷ []) ∷ [])) 1
     -- since-age 9,999 waits, 10,000 ends
-    ∷ says (Subscribe 1 0 ∷ tickAt 9999 (0 ∷ []) ∷ []) (answer done [] [])
-    ∷ says (Subscribe 1 0 ∷ tickAt 10000 (0 ∷ []) ∷ []) (answer done [] (Expired.Failed 1 ∷ []))
+    ∷ says (subscribes 1 ∷ tickAt 9999 (0 ∷ []) ∷ []) (answer done [] [])
+    ∷ says (subscribes 1 ∷ tickAt 10000 (0 ∷ []) ∷ []) (answer done [] (Expired.Failed 1 ∷ []))
     -- quiet 999 no, 1,000 yes
     ∷ leaves (joins 1 0 ++ joins 2 0 ++ (tickAt 999 (0 ∷ 1 ∷ []) ∷ [])) 2 (Pending (Item.Snapshot 0 0 ∷ Item.Snapshot 1 0 ∷ []) (Stamp.At 0) 0)
     ∷ leaves two 2 (InLine 0 false false)
@@ -149,24 +187,54 @@ points =
     ∷ says (two ++ (printOf 1 9 ∷ printOf 1 9 ∷ printOf 2 9 ∷ printOf 2 9 ∷ [])) (answer duplicate [] [])
     ∷ says (two ++ (printOf 1 9 ∷ printOf 1 9 ∷ printOf 2 9 ∷ printOf 2 9 ∷ printOf 2 9 ∷ [])) (answer apply (putPrint 2 9 1 ∷ []) [])
     -- request 1: print while Waiting, subscribe again, snapshot 0 with nobody in line, print: times 1
-    ∷ says (Subscribe 1 0 ∷ printOf 1 9 ∷ Subscribe 1 0 ∷ snap 1 0 0 ∷ printOf 1 9 ∷ []) (answer apply (putPrint 1 9 1 ∷ []) [])
+    ∷ says (subscribes 1 ∷ printOf 1 9 ∷ subscribes 1 ∷ snap 1 0 0 ∷ printOf 1 9 ∷ []) (answer apply (putPrint 1 9 1 ∷ []) [])
     -- request 1: subscribe removes its connection's counts, of every key, and nobody else's; a refused one removes none
     ∷ keeps delivers (countOf 1 8 1 ∷ countOf 2 8 1 ∷ countOf 1 9 1 ∷ [])
-    ∷ keeps (delivers ++ (Subscribe 1 0 ∷ [])) (countOf 2 8 1 ∷ [])
-    ∷ keeps (delivers ++ (Drop 1 0 1000 ∷ Subscribe 3 0 ∷ Subscribe 4 0 ∷ Subscribe 5 0 ∷ Subscribe 1 0 ∷ []))
+    ∷ keeps (delivers ++ (subscribes 1 ∷ [])) (countOf 2 8 1 ∷ [])
+    ∷ keeps (delivers ++ (Drop 1 0 1000 ∷ subscribes 3 ∷ subscribes 4 ∷ subscribes 5 ∷ subscribes 1 ∷ []))
     (countOf 1 8 1 ∷ countOf 2 8 1 ∷ countOf 1 9 1 ∷ [])
     -- request 1: applied counts remain, so of two more copies the first is no new one
     ∷ says (again ++ (printOf 1 9 ∷ [])) (answer duplicate [] [])
     ∷ says (again ++ (printOf 1 9 ∷ printOf 1 9 ∷ [])) (answer apply (putPrint 1 9 1 ∷ []) [])
     -- held, released by a take-over, printed again: a release leaves applied = delivered
-    ∷ says (Subscribe 1 0 ∷ printOf 1 9 ∷ snap 1 0 0 ∷ []) (answer apply (putSnap 1 ∷ putPrint 1 9 1 ∷ []) [])
-    ∷ says (Subscribe 1 0 ∷ printOf 1 9 ∷ snap 1 0 0 ∷ printOf 1 9 ∷ []) (answer apply (putPrint 1 9 1 ∷ []) [])
+    ∷ says (subscribes 1 ∷ printOf 1 9 ∷ snap 1 0 0 ∷ []) (answer apply (putSnap 1 ∷ putPrint 1 9 1 ∷ []) [])
+    ∷ says (subscribes 1 ∷ printOf 1 9 ∷ snap 1 0 0 ∷ printOf 1 9 ∷ []) (answer apply (putPrint 1 9 1 ∷ []) [])
     -- a print key untouched for 30,000 stays, for 30,001 goes
     ∷ says (two ++ (printOf 1 9 ∷ tickAt 30000 (0 ∷ 0 ∷ []) ∷ printOf 2 9 ∷ [])) (answer duplicate [] [])
     ∷ says (two ++ (printOf 1 9 ∷ tickAt 30001 (0 ∷ 0 ∷ []) ∷ printOf 2 9 ∷ [])) (answer apply (putPrint 2 9 1 ∷ []) [])
     -- H - 1 items: held; H: failed
-    ∷ saysWith 2 (Subscribe 1 0 ∷ event 1 1 ∷ event 1 2 ∷ []) (answer held [] [])
-    ∷ saysWith 2 (Subscribe 1 0 ∷ event 1 1 ∷ event 1 2 ∷ event 1 3 ∷ []) (answer failed [] [])
+    ∷ saysWith 2 (limited 1 2 ∷ event 1 1 ∷ event 1 2 ∷ []) (answer held [] [])
+    ∷ saysWith 2 (limited 1 2 ∷ event 1 1 ∷ event 1 2 ∷ event 1 3 ∷ []) (answer failed [] [])
+    ∷ saysWith 2 (limited 1 2 ∷ printOf 1 7 ∷ printOf 1 8 ∷ []) (answer held [] [])
+    ∷ saysWith 2 (limited 1 2 ∷ printOf 1 7 ∷ printOf 1 8 ∷ printOf 1 9 ∷ []) (answer failed [] [])
+    -- request 5: the same at a line's limit below H, which another line's does not change; a key that is held does not fail
+    ∷ says (limited 1 2 ∷ subscribes 2 ∷ event 1 1 ∷ event 1 2 ∷ []) (answer held [] [])
+    ∷ says (limited 1 2 ∷ subscribes 2 ∷ event 1 1 ∷ event 1 2 ∷ event 1 3 ∷ []) (answer failed [] [])
+    ∷ says (limited 1 2 ∷ subscribes 2 ∷ printOf 1 7 ∷ printOf 1 8 ∷ []) (answer held [] [])
+    ∷ says (limited 1 2 ∷ subscribes 2 ∷ printOf 1 7 ∷ printOf 1 8 ∷ printOf 1 8 ∷ []) (answer held [] [])
+    ∷ says (limited 1 2 ∷ subscribes 2 ∷ printOf 1 7 ∷ printOf 1 8 ∷ printOf 1 9 ∷ []) (answer failed [] [])
+    -- request 5: or more. Snapshots ignore the limit; a store that no call made may hold more prints than it too
+    ∷ says (joins 1 0 ++ (limited 2 1 ∷ snap 2 0 0 ∷ snap 2 1 0 ∷ [])) (answer held [] [])
+    ∷ says (joins 1 0 ++ (limited 2 1 ∷ snap 2 0 0 ∷ snap 2 1 0 ∷ event 2 1 ∷ [])) (answer failed [] [])
+    ∷ saysFrom overfull (event 1 5 ∷ []) (answer failed [] [])
+    ∷ saysFrom overfull (printOf 1 4 ∷ []) (answer held [] [])
+    ∷ saysFrom overfull (printOf 1 5 ∷ []) (answer failed [] [])
+    -- request 5: the item area goes by H
+    ∷ says (joins 1 0 ++ (limited 2 1 ∷ []) ++ tenSnaps 2) (answer held [] [])
+    -- request 5: 18 for a limit of zero or above H, before 4
+    ∷ says (limited 1 0 ∷ []) (refusal 18)
+    ∷ says (limited 1 1 ∷ []) (answer done [] [])
+    ∷ says (limited 1 16 ∷ []) (answer done [] [])
+    ∷ says (limited 1 17 ∷ []) (refusal 18)
+    ∷ says (fourLines ++ (limited 5 16 ∷ [])) (refusal 4)
+    ∷ says (fourLines ++ (limited 5 17 ∷ [])) (refusal 18)
+    -- request 5: a new subscription brings its own limit; a reset, a rebuild and failing keep it
+    ∷ limitedTo (limited 1 1 ∷ limited 1 2 ∷ []) 1 2
+    ∷ limitedTo (limited 1 2 ∷ limited 1 1 ∷ []) 1 1
+    ∷ limitedTo (limited 1 2 ∷ limited 1 0 ∷ []) 1 2
+    ∷ limitedTo (limited 1 2 ∷ Reset 0 ∷ []) 1 2
+    ∷ limitedTo (limited 1 1 ∷ event 1 1 ∷ event 1 2 ∷ []) 1 1
+    ∷ limitedTo ((limited 1 2 ∷ snap 1 0 0 ∷ snap 1 1 0 ∷ []) ++ joins 2 0 ++ (tickAt 10000 (0 ∷ 0 ∷ []) ∷ [])) 1 2
     -- snapshots of equal time: the lower connection
     ∷ says (joins 1 0 ++ joins 3 5 ++ joins 2 5 ++ (Drop 1 6 1000 ∷ [])) (answer rebuild (putSnap 2 ∷ putSnap 2 ∷ []) [])
     -- no sweep after a take-over by snapshot: 2, whose pqrs now fit the log, stays pending
@@ -179,7 +247,7 @@ points =
     -- counts outlive a drop
     ∷ keeps (delivers ++ (Drop 1 0 1000 ∷ [])) (countOf 1 8 1 ∷ countOf 2 8 1 ∷ countOf 1 9 1 ∷ [])
     -- at 10,000 a Waiting line that holds a snapshot fails; a Pending one with a snapshot time rebuilds
-    ∷ says (joins 1 0 ++ (Subscribe 2 0 ∷ snap 2 0 0 ∷ tickAt 10000 (0 ∷ 0 ∷ []) ∷ [])) (answer done [] (Expired.Failed 2 ∷ []))
+    ∷ says (joins 1 0 ++ (subscribes 2 ∷ snap 2 0 0 ∷ tickAt 10000 (0 ∷ 0 ∷ []) ∷ [])) (answer done [] (Expired.Failed 2 ∷ []))
     ∷ says (joins 1 0 ++ joins 2 0 ++ (tickAt 10000 (0 ∷ 0 ∷ []) ∷ [])) (answer done (putSnap 2 ∷ putSnap 2 ∷ []) (Expired.Rebuild 2 2 ∷ []))
     -- a second connection's copy; another key at the same number
     ∷ says (two ++ (event 1 1 ∷ event 2 1 ∷ [])) (answer duplicate [] [])
@@ -195,3 +263,7 @@ points =
 -- each row shows what it should
 abbrev pub WorkedPoints : Type 0
 WorkedPoints = Each (λ (x : Row). x .0 ≡ x .1) points
+
+-- the market that no call made is sound
+abbrev pub OverfullSound : Type 0
+OverfullSound = Sound overfull

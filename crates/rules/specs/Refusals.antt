@@ -14,7 +14,7 @@ use Rattle.rules.specs.Tick.{tick}
 
 -- the eight calls of demand 3. room and reports: how many records and reports the lent lists take
 pub data Call : Type 0 where
-  Subscribe : (conn now : ℕ) → Call
+  Subscribe : (conn limit now : ℕ) → Call
   Snapshot : (conn index message now room : ℕ) → Call
   BookEvent : (conn : ℕ) (key : Key) (message now room : ℕ) → Call
   Print : (conn : ℕ) (key : Key) (message now room : ℕ) → Call
@@ -35,7 +35,7 @@ abbrev pub badAnswers : List ℕ → Market → Bool
 badAnswers answers m = not (eqb (length answers) (length (m .lines))) || any (λ a. ltb 1 a) answers
 
 unfoldable pub step : Call → Market → Outcome
-step (Subscribe c now) m = subscribe c now m
+step (Subscribe c limit now) m = subscribe c limit now m
 step (Snapshot c t msg now room) m =
     refuse (ltb 1 t) 10 (refuse (short room m) 3 (snapshot (lineOf c m) t msg now m ((connAt (lineOf c m) m) .line)))
 step (BookEvent c k msg now room) m =

@@ -26,8 +26,12 @@ LineSound l e (Pending is at since) = (length is ≤ areaItems l) × Each Known 
 LineSound l e (InLine n a b) = n ≤ e
 LineSound l e Failed = Unit {0}
 
+-- request 5: a line's limit is 1 to H, whatever its kind
+abbrev pub LimitSound : Limits → Connection → Type 0
+LimitSound l s = (1 ≤ s .limit) × (s .limit ≤ l .H)
+
 abbrev pub ConnSound : Limits → ℕ → Connection → Type 0
-ConnSound l e s = LineSound l e (s .line) × (length (s .held) ≤ l .H)
+ConnSound l e s = LineSound l e (s .line) × (length (s .held) ≤ l .H) × LimitSound l s
 
 -- what a line can put out, and all lines
 abbrev pub holds : Connection → ℕ

@@ -3,10 +3,9 @@ use mathlib.Core.Path.{_≡_}
 use mathlib.Core.Bool.{true, _&&_}
 use Prim.Native.Nat.{_+_, _*_, _≤_}
 use native.Mathlib.Nat.{mul-le-mul-right}
-use lib.Dec.{leb}
 use Rattle.rules.specs.declared.Limits.{Limits}
 use Rattle.rules.specs.Quantities.{within, inRange}
-use Rattle.rules.proofs.Tests.{and-true-left, and-true-right, leb-true}
+use Rattle.rules.proofs.Tests.{and-true-left, and-true-right, within-both}
 
 pub record Bounds (l : Limits) : Type 0 where
   pub lines : l .L ≤ 16
@@ -28,13 +27,14 @@ bounds l e =
     let e₄ : (a && b && c && d) ≡ true = and-true-left (a && b && c && d) f e in
     let e₃ : (a && b && c) ≡ true = and-true-left (a && b && c) d e₄ in
     let e₂ : (a && b) ≡ true = and-true-left (a && b) c e₃ in
-    let hL : l .L ≤ 16 = leb-true (and-true-right (leb 1 (l .L)) (leb (l .L) 16) (and-true-left a b e₂)) in
+    let hL : l .L ≤ 16 = within-both 1 16 (l .L) (and-true-left a b e₂) .1 in
+    let hG = within-both 1 1048576 (l .G) (and-true-right (a && b) c e₃) in
     record {
       lines = hL;
-      held = leb-true (and-true-right (leb 1 (l .H)) (leb (l .H) 5000) (and-true-right a b e₂));
-      event = leb-true (and-true-left (leb 1 (l .G)) (leb (l .G) 1048576) (and-true-right (a && b) c e₃));
-      events = leb-true (and-true-right (leb 1 (l .G)) (leb (l .G) 1048576) (and-true-right (a && b) c e₃));
-      keys = leb-true (and-true-right (leb 1 (l .C)) (leb (l .C) 65536) (and-true-right (a && b && c) d e₄));
-      pairs = leb-true (and-true-right (leb 1 (l .D)) (leb (l .D) 65536) (and-true-right (a && b && c && d) f e));
+      held = within-both 1 5000 (l .H) (and-true-right a b e₂) .1;
+      event = hG .0;
+      events = hG .1;
+      keys = within-both 1 65536 (l .C) (and-true-right (a && b && c) d e₄) .1;
+      pairs = within-both 1 65536 (l .D) (and-true-right (a && b && c && d) f e) .1;
       areas = mul-le-mul-right (7 * l .H + 64) hL;
     }

@@ -16,7 +16,7 @@ use Rattle.lines.specs.AreaSound.{LineFits}
 use Rattle.store.specs.Store.{limitsOf, headOf, lineCount, connIn, marketOf, Sound}
 use Rattle.store.specs.Moves.{Counts}
 use Rattle.store.proofs.MarketLaws.{market-limits, market-lines, log-ends, entry-count, lines-count, key-count, pair-count, conn-words}
-use Rattle.store.proofs.ConnLaws.{prints-counted, fits-sound}
+use Rattle.store.proofs.ConnLaws.{prints-counted, limit-said, fits-sound}
 use Rattle.sound.specs.Parts.{Ranged, EachSound, ItemsFit}
 use Rattle.sound.proofs.LineLaws.{says-as}
 
@@ -57,6 +57,7 @@ module _ (w : List ℕ) where
       (each-of (ConnSound (limitsOf w) e) (lineCount w) (connIn w) (λ i h. (
         of-fits (limitsOf w) e (connIn w i .line) (ls i h .area .line),
         rw (prints-counted w i h, conn-words w i h) at (ls i h .area .prints),
+        (rw (limit-said w i h, conn-words w i h) at (ls i h .area .limit), rw (limit-said w i h, conn-words w i h) at (ls i h .area .within)),
       )))
 
   pub lines-of : Sound w → EachSound w
@@ -66,7 +67,14 @@ module _ (w : List ℕ) where
       let r : Rising Lower (tab (lineCount w) (connIn w)) = rw (market-lines w) at (s .market .lines .rises) in
       record {
         above = λ p. rw (conn-words w (i - 1) (omega arith), conn-words w i h) (rising-in Lower (lineCount w) (connIn w) r (i - 1) i (omega arith) h);
-        area = record { kind = s .kinds i h; prints = rw (prints-counted w i h) (fits-sound w s i h .prints); line = fits-of (limitsOf w) e (connIn w i .line) (c .0) };
+        area =
+            record {
+              kind = s .kinds i h;
+              prints = rw (prints-counted w i h) (fits-sound w s i h .prints);
+              limit = rw (limit-said w i h, conn-words w i h) (c .2 .0);
+              within = rw (limit-said w i h, conn-words w i h) (c .2 .1);
+              line = fits-of (limitsOf w) e (connIn w i .line) (c .0);
+            };
       }
 
   -- ---- the whole

@@ -26,12 +26,12 @@ fn short(s: &[u64], len: usize) -> bool
     room < limits.L * (2 * limits.H + 8) + 1
 }
 
-// A connection subscribes: its delivered counts go, and its line becomes Waiting, empty, since t.
-pub fn subscribe(s: &mut [u64], conn: u64, t: u64) -> Changed
+// A connection subscribes: its delivered counts go, and its line becomes Waiting, empty, since t, with this limit, 1 to H.
+pub fn subscribe(s: &mut [u64], conn: u64, limit: u64, t: u64) -> Changed
     requires { ⌜ Sound (now s) ⌝ }
-    ensures { λ r. ⌜ Steps (Subscribe conn t) (alone (now (s .entry))) (ofChanged r) (alone (now (s .exit))) ⌝ }
+    ensures { λ r. ⌜ Steps (Subscribe conn limit t) (alone (now (s .entry))) (ofChanged r) (alone (now (s .exit))) ⌝ }
 {
-    market::changes::subscribe(s, conn, t)
+    market::changes::subscribe(s, conn, limit, t)
 }
 
 // A connection sends a snapshot of a token, 0 or 1.

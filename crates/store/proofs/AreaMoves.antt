@@ -90,13 +90,13 @@ module _ (w v zs : List ℕ) (i : ℕ) (f : Room w i) (c : Opened w v zs i) wher
   opened-before : (j : ℕ) → j < i → areaIn (limitsOf w) v j ≡ areaIn (limitsOf w) w j
   opened-before = relisted-before w v i (f .lined .sized) (c .kept) (omega arith)
 
-  pub opened-moved : (conn t : ℕ) → ((h : ℕ) → connOf h zs ≡ waiting conn t) → Moved w v (withLines (inserted i (waiting conn t) (marketOf w .lines)) (marketOf w))
+  pub opened-moved : (conn limit t : ℕ) → ((h : ℕ) → connOf h zs ≡ waiting conn limit t) → Moved w v (withLines (inserted i (waiting conn limit t) (marketOf w .lines)) (marketOf w))
   unfolding marketOf
-  opened-moved conn t z =
+  opened-moved conn limit t z =
       let m : lineCount v ≡ suc (lineCount w) = c .count in
-      relisted-moved w v i (f .lined .sized) (c .kept) (inserted i (waiting conn t) (marketOf w .lines))
+      relisted-moved w v i (f .lined .sized) (c .kept) (inserted i (waiting conn limit t) (marketOf w .lines))
       (ap (λ (k : ℕ). tab k (λ j. connOf (limitsOf w .H) (areaIn (limitsOf w) v j))) m
-      ∙ tab-inserted (lineCount w) (connIn w) (λ j. connOf (limitsOf w .H) (areaIn (limitsOf w) v j)) i (waiting conn t) (f .here)
+      ∙ tab-inserted (lineCount w) (connIn w) (λ j. connOf (limitsOf w .H) (areaIn (limitsOf w) v j)) i (waiting conn limit t) (f .here)
       (ap (connOf (limitsOf w .H)) (c .new) ∙ z (limitsOf w .H))
       (λ j h. ap (connOf (limitsOf w .H)) (opened-before j h))
       (λ j h k. c .moved j h k .conn))

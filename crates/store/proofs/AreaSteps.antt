@@ -232,6 +232,6 @@ module _ (w : List ℕ) (i : ℕ) (f : Room w i) where
                 says-stays w v x k (suc k) (stays (suc k) (omega arith) ∙ t″) (c .moved k (omega arith) l);
           }
 
-      pub opening-done : (conn t : ℕ) → ((h : ℕ) → connOf h zs ≡ waiting conn t)
-          → Moved w (set (back a (a + width w) zs v) 9 (lineCount w + 1)) (withLines (inserted i (waiting conn t) (marketOf w .lines)) (marketOf w))
-      opening-done conn t h = opened-moved w _ zs i f opened-by conn t h
+      pub opening-done : (conn limit t : ℕ) → ((h : ℕ) → connOf h zs ≡ waiting conn limit t)
+          → Moved w (set (back a (a + width w) zs v) 9 (lineCount w + 1)) (withLines (inserted i (waiting conn limit t) (marketOf w .lines)) (marketOf w))
+      opening-done conn limit t h = opened-moved w _ zs i f opened-by conn limit t h

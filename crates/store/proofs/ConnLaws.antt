@@ -6,15 +6,17 @@ use Prim.Native.Nat.{ℕ, _+_, _*_, _^_, _≤_, _<_}
 use native.Mathlib.Omega.{arith}
 use lib.Dec.{eqb}
 use lib.ListN.{length, getD, drop, set, length-set, drop-of-length-le}
+use lib.Seq.{getD-set-same, set-set}
 use Rattle.rules.specs.declared.Item.{Item}
 use Rattle.rules.specs.declared.Limits.{Limits}
 use Rattle.rules.specs.Lists.{index, any}
 use Rattle.rules.specs.Quantities.{Key, maxNumber}
 use Rattle.rules.specs.Lines as Rules
-use Rattle.rules.specs.Lines.{Connection, Market, connAt, nobody, itemsOf, itemCount, isPending, isFailed, setLine, setConn, withLines}
+use Rattle.rules.specs.Lines.{Connection, Market, connAt, nobody, itemsOf, itemCount, isPending, isFailed, setLine, setConn, waiting, withHeld, withLine, withLines}
 use Rattle.rules.specs.Entering.{pendings}
 use Rattle.rules.specs.Sound.{ConnSound, LineSound}
 use Rattle.rules.proofs.ListLaws.{each-at, length-keep}
+use Rattle.rules.proofs.SoundCalls.{limit-at}
 use Rattle.words.specs.Words.{part, back}
 use Rattle.words.proofs.Parts.{Loan, part-length, length-back, back-in}
 use Rattle.words.proofs.Tab.{length-tab, getD-tab, drop-tab-cons}
@@ -22,7 +24,7 @@ use Rattle.place.specs.Items.{itemIn, itemsIn, kindOf}
 use Rattle.place.proofs.Items.{items-length}
 use Rattle.lines.specs.declared.Line.{Line}
 use Rattle.lines.specs.Line.{lineOf, heldOf, holding}
-use Rattle.lines.specs.Area.{lineWords, headLine, printsIn, printCount, itemWords, connOf, withLine, withHeld, Fit}
+use Rattle.lines.specs.Area.{lineWords, headLine, printsIn, printCount, lineLimit, itemWords, connOf, Fit}
 use Rattle.lines.proofs.Laws.{items-of}
 use Rattle.lines.proofs.AreaLaws.{words-of, set-line-conn, kind-known, kind-written}
 use Rattle.store.specs.Store.{limitsOf, lineCount, lineWidth, lineStart, lineWordsAt, connIn, marketOf, Sound}
@@ -57,6 +59,10 @@ module _ (w : List ℕ) (i : ℕ) (h : i < lineCount w) where
   pub prints-counted : printCount (lineWordsAt w i) ≡ length ((connAt i (marketOf w)) .held)
   unfolding connOf printsIn
   prints-counted = sym (ap (λ (c : Connection). length (c .held)) (conn-words w i h) ∙ length-tab (printCount (lineWordsAt w i)) _)
+
+  pub limit-said : lineLimit (lineWordsAt w i) ≡ (connAt i (marketOf w)) .limit
+  unfolding connOf
+  limit-said = sym (ap (λ (c : Connection). c .limit) (conn-words w i h))
 
 -- the words of the i-th line's items, and the items that are counted among them
 pub items-size : (w : List ℕ) (i : ℕ) → LineAt w i → length (itemsAt w i) ≡ 4 * limitsOf w .H + 32
@@ -104,6 +110,9 @@ module _ (w : List ℕ) (s : Sound w) where
       go e (Rules.Pending is at since) t = t .0
       go e (Rules.InLine n a b) t = omega arith
       go e Rules.Failed t = omega arith
+
+  pub limit-sound : (i : ℕ) → i < lineCount w → (connAt i (marketOf w)) .limit ≤ limitsOf w .H
+  limit-sound i h = rw (market-limits w) at (limit-at (marketOf w) i (rw (lines-count w) h) (s .market) .1)
 
   pub items-sound : itemCount (marketOf w .lines) ≤ maxNumber
   items-sound = let t = s .market .lines .numbersFit in omega arith
@@ -168,6 +177,13 @@ module _ (w : List ℕ) (i a e : ℕ) (p : a ≡ lineStart (limitsOf w) i) (q : 
         → Moved w (back a e ys w) (setConn i ((connAt i (marketOf w)) .line) (g ((connAt i (marketOf w)) .held)) (marketOf w))
     prints-done g k ys n r = held-becomes ys n (λ c. withHeld (g (c .held)) c) r k
 
+    -- a line written anew
+    pub put-waiting-done : (conn limit t : ℕ) (ys : List ℕ) → length ys ≡ length (part a e w) → ((h : ℕ) → connOf h ys ≡ waiting conn limit t)
+        → Moved w (back a e ys w) (withLines (set (marketOf w .lines) i (waiting conn limit t)) (marketOf w))
+    put-waiting-done conn limit t ys n r =
+        let h = limitsOf w .H in
+        line-becomes ys (n ∙ size) (λ c. waiting conn limit t) (r h) (kind-known h ys (ap (λ (x : Connection). isFailed (x .line)) (r h)))
+
 -- each such move keeps the lines that are there
 pub line-at-kept : (w v : List ℕ) (i : ℕ) (c : Connection) → Moved w v (withLines (set (marketOf w .lines) i c) (marketOf w)) → (j : ℕ) → LineAt w j → LineAt v j
 line-at-kept w v i c b j f =
@@ -175,6 +191,13 @@ line-at-kept w v i c b j f =
     sym (lines-count v) ∙ ap (λ (m : Market). length (m .lines)) (b .market) ∙ length-set (marketOf w .lines) i c ∙ lines-count w in
     let l : limitsOf v .L ≡ limitsOf w .L = ap (λ (m : Limits). m .L) (moved-limits b ∙ market-limits w) in
     record { lined = record { sized = b .sized; count = rw (n, l) (f .lined .count) }; here = rw n (f .here) }
+
+-- another line, after another line and other held prints
+pub line-again : (i : ℕ) (l l₁ : Rules.Line) (hs : List (Key × ℕ)) (m : Market) → i < length (m .lines) → setLine i l₁ (setConn i l hs m) ≡ setConn i l₁ hs m
+line-again i l l₁ hs m h =
+    let c : Connection = withLine l (withHeld hs (connAt i m)) in
+    ap (λ (x : Connection). withLines (set (set (m .lines) i c) i (withLine l₁ x)) m) (getD-set-same (m .lines) i c nobody h)
+    ∙ ap (λ (ls : List Connection). withLines ls m) (set-set (m .lines) i c (withLine l₁ c))
 
 -- ---- walks along the lines
 

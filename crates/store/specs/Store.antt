@@ -46,7 +46,7 @@ putUsed u w = set (set (set (set w 10 (u .keys .old)) 11 (u .counts .old)) 13 (u
 
 -- the layout of a store's words, which every change of it raises; setup writes it
 abbrev pub layout : ℕ
-layout = 3
+layout = 4
 
 abbrev pub layoutOf : List ℕ → ℕ
 layoutOf w = getD w 12 0

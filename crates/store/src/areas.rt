@@ -64,11 +64,11 @@ pub fn take_out(s: &mut [u64], i: usize)
     s[9] = last as u64;
 }
 
-// A line of the connection comes to stand at place i: the areas from there on move up by one.
-pub fn insert(s: &mut [u64], i: usize, conn: u64, t: u64)
+// A line of the connection comes to stand at place i, with this limit: the areas from there on move up by one.
+pub fn insert(s: &mut [u64], i: usize, conn: u64, limit: u64, t: u64)
     requires { ⌜ Room (now s) i ⌝ }
     ensures { λ _. ⌜ Moved (now (s .entry)) (now (s .exit))
-        (withLines (inserted i (waiting conn t) (marketOf (now (s .entry)) .lines)) (marketOf (now (s .entry)))) ⌝ }
+        (withLines (inserted i (waiting conn limit t) (marketOf (now (s .entry)) .lines)) (marketOf (now (s .entry)))) ⌝ }
 {
     let n = s[9] as usize;
     let h = s[1] as usize;
@@ -82,6 +82,6 @@ pub fn insert(s: &mut [u64], i: usize, conn: u64, t: u64)
         j -= 1;
     }
     let f = a + width;
-    lines::area::put_waiting(&mut s[a..f], conn, t);
+    lines::area::put_waiting(&mut s[a..f], conn, limit, t);
     s[9] = (n + 1) as u64;
 }

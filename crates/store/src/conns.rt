@@ -6,11 +6,11 @@ use rules::Item;
 ghost use mathlib.Core.Path.{_≡_};
 ghost use mathlib.Core.List.{[], _∷_, _++_};
 ghost use Prim.Native.Nat.{_≤_, _<_};
-ghost use lib.ListN.{length, getD};
+ghost use lib.ListN.{length, getD, set};
 ghost use Rattle.rules.specs.Quantities.{same, maxNumber};
 ghost use Rattle.rules.specs.Lists.{any};
 ghost use Rattle.rules.specs.Lines as Rules;
-ghost use Rattle.rules.specs.Lines.{connAt, itemsOf, setLine, setConn, someone, someDue, itemCount};
+ghost use Rattle.rules.specs.Lines.{connAt, itemsOf, withLines, setLine, setConn, waiting, someone, someDue, itemCount};
 ghost use Rattle.rules.specs.Entering.{pendings as pendingLines};
 ghost use Rattle.place.specs.Items.{itemIn};
 ghost use Rattle.lines.specs.Line.{lineOf, holding};
@@ -27,7 +27,7 @@ pub fn count(s: &[u64]) -> usize
     s[9] as usize
 }
 
-// The held limit.
+// The held limit H.
 pub fn held_limit(s: &[u64]) -> usize
     requires { ⌜ 64 ≤ length (now s) ⌝ }
     ensures { λ r. ⌜ r ≡ limitsOf (now (s .entry)) .H ⌝ }
@@ -51,6 +51,14 @@ pub fn conn_at(s: &[u64], i: usize) -> u64
     ensures { λ r. ⌜ r ≡ (connAt i (marketOf (now (s .entry)))) .conn ⌝ }
 {
     lines::area::conn(line_words(s, i))
+}
+
+// The i-th line's limit.
+pub fn limit_at(s: &[u64], i: usize) -> usize
+    requires { ⌜ LineAt (now s) i ⌝ }
+    ensures { λ r. ⌜ r ≡ (connAt i (marketOf (now (s .entry)))) .limit ⌝ }
+{
+    lines::area::limit(line_words(s, i))
 }
 
 // The i-th line, by value.
@@ -174,6 +182,17 @@ pub fn drop_prints(s: &mut [u64], i: usize)
     let a = crate::areas::line_start(s, i);
     let e = crate::areas::line_end(s, i);
     lines::area::drop_prints(&mut s[a..e], h);
+}
+
+// The i-th line is written anew: this connection's, Waiting, empty, since t, with this limit.
+pub fn put_waiting(s: &mut [u64], i: usize, conn: u64, limit: u64, t: u64)
+    requires { ⌜ LineAt (now s) i ⌝ }
+    ensures { λ r. ⌜ Moved (now (s .entry)) (now (s .exit))
+        (withLines (set (marketOf (now (s .entry)) .lines) i (waiting conn limit t)) (marketOf (now (s .entry)))) ⌝ }
+{
+    let a = crate::areas::line_start(s, i);
+    let e = crate::areas::line_end(s, i);
+    lines::area::put_waiting(&mut s[a..e], conn, limit, t);
 }
 
 // Whether anyone is in line.

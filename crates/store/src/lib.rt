@@ -12,7 +12,7 @@ ghost use Rattle.rules.specs.Lines.{fresh};
 ghost use Rattle.store.specs.Store.{layout, layoutOf, headOf, marketOf};
 
 // The layout of a store's words; docs/LAYOUT.md says what each number stands for.
-pub const LAYOUT: u64 = 3;
+pub const LAYOUT: u64 = 4;
 
 // The layout that the words say they have.
 pub fn layout(s: &[u64]) -> u64

@@ -159,8 +159,8 @@ impl Host {
             Refusal::Numbers => self.new_market(),
             // faults of the host: its keys do not tell messages apart, or another market's token
             Refusal::Copies | Refusal::Index => {}
-            // answers to other calls: `MarketMerge::with_start` and `subscribe`
-            Refusal::Limits | Refusal::Lines => {}
+            // answers to other calls: `MarketMerge::with_start`, and those that subscribe
+            Refusal::Limits | Refusal::Lines | Refusal::LineLimit => {}
         }
     }
 

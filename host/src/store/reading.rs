@@ -53,7 +53,7 @@ impl Store {
     pub fn messages(&self, line: usize) -> (Vec<usize>, Vec<usize>) {
         let (items, prints) = self.held(line);
         let (item_area, print_area) =
-            self.area(line)[32..].split_at(self.area - 32 - 3 * self.held_limit());
+            self.area(line)[32..].split_at(self.area - 32 - 3 * self.held_limit() as usize);
         let item = |i: usize| item_area[4 * i + 3] as usize;
         let print = |i: usize| print_area[3 * i + 2] as usize;
         (
@@ -98,13 +98,15 @@ impl Store {
         LineReading {
             conn: area[0],
             kind,
+            limit: area[10],
             items,
             prints,
         }
     }
 
-    fn held_limit(&self) -> usize {
-        self.words[1] as usize
+    /// H: the largest limit of a line.
+    pub fn held_limit(&self) -> u64 {
+        self.words[1]
     }
 
     /// `count` records of the last call, after the first `from`.

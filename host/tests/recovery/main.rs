@@ -1,6 +1,7 @@
 //! The host of examples/recovering over each refusal: the book comes right again, and no print
 //! counts twice. Refusal 8 takes 2^32 deliveries and is not driven here; crates/calls_points meets it
-//! in a store that was made by hand.
+//! in a store that was made by hand. Nor is 18, since this host gives its lines no limit of their own;
+//! tests/line_limits.rs meets it.
 #[path = "../../examples/recovering/book.rs"]
 mod book;
 mod events;

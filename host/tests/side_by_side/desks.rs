@@ -14,11 +14,7 @@ pub fn run(random: &mut Random) -> Result<u64, String> {
     let setup = lists::setup(random);
     let length = random.between(10, 250);
     let mut maker = Maker::new(random, &setup);
-    let original = merge::MarketMerge {
-        max_held: merge::MAX_HELD,
-        ..Default::default()
-    };
-    let mut old = original_desk::Desk::new(original);
+    let mut old = original_desk::Desk::new(original_desk::MarketMerge::default());
     let mut new = drop_in_desk::Desk::new(drop_in_desk::MarketMerge::default());
     let zero = Instant::now();
     for number in 0..length {
@@ -27,7 +23,8 @@ pub fn run(random: &mut Random) -> Result<u64, String> {
         let old_key = |k: (u64, u64)| merge::EventKey(k.0, k.1);
         let new_key = |k: (u64, u64)| EventKey::new(k.0, k.1);
         match call {
-            Call::Subscribe(conn) => {
+            // a host of the original's knows no limit of a line
+            Call::Subscribe(conn, _) => {
                 old.subscribe(conn, then);
                 new.subscribe(conn, now);
             }

@@ -40,7 +40,8 @@ pub type Key = (u64, u64);
 
 #[derive(Clone, Copy, Debug)]
 pub enum Call {
-    Subscribe(u64),
+    /// With a limit of the line's own, where there is one.
+    Subscribe(u64, Option<u64>),
     Snapshot(u64, usize),
     Book(u64, Key),
     Other(u64, Key),
@@ -116,6 +117,8 @@ pub struct Maker<'a> {
     token: Option<usize>,
     /// How many of a hundred calls, about, are book events.
     busy: u64,
+    /// The held limit of the market.
+    held: u64,
     now: u64,
 }
 
@@ -155,6 +158,7 @@ impl Maker<'_> {
             conns,
             token,
             busy,
+            held: setup.limits.held,
             now,
         }
     }
@@ -224,11 +228,22 @@ impl Maker<'_> {
         let i = self.conn(false);
         let farthest = self.conns.iter().map(|conn| conn.at).max().unwrap_or(0);
         let back = self.r.below(7) as usize;
+        let limit = self.limit();
         let conn = &mut self.conns[i];
         conn.at = (farthest + 2).saturating_sub(back);
         conn.subscribed = true;
         conn.came = [false; 2];
-        Call::Subscribe(conn.number)
+        Call::Subscribe(conn.number, limit)
+    }
+
+    /// None, for the market's; or the line's own, short more often than not, and now and then one that is refused.
+    fn limit(&mut self) -> Option<u64> {
+        match self.r.below(20) {
+            0..=7 => None,
+            8 => Some(self.r.of(&[0, self.held + 1, u64::MAX])),
+            9..=14 => Some(self.r.between(1, self.held.min(8))),
+            _ => Some(self.r.between(1, self.held)),
+        }
     }
 
     /// Mostly one that did not come yet.

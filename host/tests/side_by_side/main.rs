@@ -1,5 +1,6 @@
 //! The drop-in beside the original on random call lists, through the public API alone. Needs the original: FEED_MERGE is the path of
-//! feed_merge.rs, which tests/oracle/edit.rs makes to compile alone, with request 1's removal. LISTS and SEED choose the lists.
+//! feed_merge.rs, which tests/oracle/edit.rs makes to compile alone, with request 1's removal and request 5's limit of each line. LISTS and
+//! SEED choose the lists.
 #[cfg(original)]
 mod desks;
 #[cfg(original)]
@@ -20,8 +21,34 @@ mod sides;
 #[cfg(original)]
 #[allow(clippy::let_unit_value)]
 mod original_desk {
-    use crate::merge::{Applied, EventKey, Expired, Lost, MarketMerge, Step};
+    use crate::merge::{self, Applied, EventKey, Expired, Lost, Step};
     use crate::shim::Instant;
+    use std::ops::{Deref, DerefMut};
+
+    /// The edited original with the `subscribe` that it had: every line's limit is `MAX_HELD`.
+    #[derive(Default)]
+    pub struct MarketMerge(merge::MarketMerge);
+
+    impl MarketMerge {
+        fn subscribe(&mut self, conn: u64, now: Instant) {
+            self.0.subscribe(conn, merge::MAX_HELD, now);
+        }
+    }
+
+    impl Deref for MarketMerge {
+        type Target = merge::MarketMerge;
+
+        fn deref(&self) -> &Self::Target {
+            &self.0
+        }
+    }
+
+    impl DerefMut for MarketMerge {
+        fn deref_mut(&mut self) -> &mut Self::Target {
+            &mut self.0
+        }
+    }
+
     include!("desk.rs");
 }
 

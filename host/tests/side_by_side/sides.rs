@@ -1,7 +1,7 @@
 //! A list on both sides, compared after every call.
 use crate::lists::{self, Call, Maker, Random, Setup, Timed};
 use crate::{merge, shim};
-use pollendrift::{Applied, EventKey, Expired, Lost, MarketMerge, Step};
+use pollendrift::{Applied, EventKey, Expired, Lost, MarketMerge, Refusal, Step};
 use std::cell::Cell;
 use std::collections::BTreeMap;
 use std::fmt::Debug;
@@ -12,7 +12,7 @@ use std::time::{Duration, Instant};
 pub type Seen = BTreeMap<String, u64>;
 
 /// Answers that enough lists come to.
-pub const ANSWERS: [&str; 19] = [
+pub const ANSWERS: [&str; 22] = [
     "Apply",
     "Duplicate",
     "Held",
@@ -27,11 +27,14 @@ pub const ANSWERS: [&str; 19] = [
     "tick Failed",
     "a print repeated",
     "several put out",
+    "an event failed by the line's own limit",
+    "a print failed by the line's own limit",
     "refused 4",
     "refused 5",
     "refused 7",
     "refused 9",
     "refused 10",
+    "refused 18",
 ];
 
 /// A message that is counted while it lives.
@@ -125,7 +128,6 @@ pub fn run(random: &mut Random, seen: &mut Seen) -> Result<u64, String> {
     let length = random.between(10, 250);
     let mut maker = Maker::new(random, &setup);
     let original = merge::MarketMerge {
-        max_held: setup.limits.held as usize,
         base: setup.start,
         ..Default::default()
     };
@@ -167,23 +169,19 @@ impl Sides<'_> {
         let new = |k: (u64, u64)| EventKey::new(k.0, k.1);
         let old = |k: (u64, u64)| merge::EventKey(k.0, k.1);
         match call {
-            Call::Subscribe(conn) => match self.drop_in.subscribe(conn, now) {
-                Ok(()) => self.original.subscribe(conn, then),
-                Err(refusal) => self.see(format!("refused {}", refusal.number())),
-            },
+            Call::Subscribe(conn, limit) => return self.subscribe(conn, limit, now, then),
             Call::Snapshot(conn, token) => {
                 let step = self.drop_in.snapshot(conn, token, msg, now);
                 return self.step(step, |m| m.snapshot(conn, token, &number, then));
             }
             Call::Book(conn, key) => {
                 let step = self.drop_in.book_event(conn, new(key), msg, now);
-                if matches!(step, Step::Failed | Step::Ignored) {
-                    self.failed.push(conn);
-                }
+                self.see_failed(&step, conn, "an event");
                 return self.step(step, |m| m.book_event(conn, old(key), &number, then));
             }
             Call::Other(conn, key) => {
                 let step = self.drop_in.other(conn, new(key), msg, now);
+                self.see_failed(&step, conn, "a print");
                 return self.step(step, |m| m.other(conn, old(key), &number, then));
             }
             Call::Drop(conn) => {
@@ -201,6 +199,35 @@ impl Sides<'_> {
             Call::Tick => return self.tick(now, then),
         }
         Ok(())
+    }
+
+    /// By `subscribe` where the line has no limit of its own. The original refuses nothing: which refusal is due is worked out here.
+    fn subscribe(
+        &mut self,
+        conn: u64,
+        own: Option<u64>,
+        now: Instant,
+        then: shim::Instant,
+    ) -> Result<(), String> {
+        let limits = self.setup.limits;
+        let limit = own.unwrap_or(limits.held);
+        let lines = &self.original.lines;
+        let due = if limit == 0 || limit > limits.held {
+            Err(Refusal::LineLimit)
+        } else if !lines.contains_key(&conn) && lines.len() as u64 == limits.lines {
+            Err(Refusal::Lines)
+        } else {
+            Ok(())
+        };
+        let done = match own {
+            None => self.drop_in.subscribe(conn, now),
+            Some(limit) => self.drop_in.subscribe_with_limit(conn, limit, now),
+        };
+        match done {
+            Ok(()) => self.original.subscribe(conn, limit as usize, then),
+            Err(refusal) => self.see(format!("refused {}", refusal.number())),
+        }
+        alike(|a, b| a == b, &done, &due)
     }
 
     /// A refused call is not made on the original.
@@ -270,6 +297,11 @@ impl Sides<'_> {
         if !lines || new.any_in_line() != old.any_in_line() || new.servable() != old.servable() {
             return Err("the queries differ".into());
         }
+        let limits = new.reading().lines.into_iter();
+        let limits = limits.map(|line| (line.conn, line.limit as usize));
+        if !limits.eq(old.limits.iter().map(|(conn, limit)| (*conn, *limit))) {
+            return Err("the lines' limits differ".into());
+        }
         let items = old.lines.values().map(|line| match line {
             merge::Line::Waiting { items, .. } | merge::Line::Pending { items, .. } => items.len(),
             _ => 0,
@@ -286,6 +318,20 @@ impl Sides<'_> {
 
     fn see(&mut self, what: String) {
         *self.seen.entry(what).or_insert(0) += 1;
+    }
+
+    /// A connection that failed or is ignored. The original has not made the call yet: one that it does not have in line failed by its
+    /// limit, which is the line's own where it is below the market's.
+    fn see_failed(&mut self, step: &Step<Applied<Message>>, conn: u64, what: &str) {
+        if !matches!(step, Step::Failed | Step::Ignored) {
+            return;
+        }
+        self.failed.push(conn);
+        let limit = self.original.limits.get(&conn).copied();
+        let own = limit.is_some_and(|limit| (limit as u64) < self.setup.limits.held);
+        if own && matches!(step, Step::Failed) && !self.original.in_line(conn) {
+            self.see(format!("{what} failed by the line's own limit"));
+        }
     }
 
     fn see_records(&mut self, out: &[Applied<Message>]) {

@@ -20,7 +20,12 @@ returns-2 : tie.Need-returns-2
 returns-2 c = λ q. let a = c .before .before .before .before .before .before .before .before .before .before .before .before .before .before .args in told-none (a .w .now) (lentAll (a .s .now) (a .out .now) q) _ _ (c .of-step .result) (c .before .before .before .before .before .message .ensures q) (c .of-step .ensures)
 
 returns-3 : tie.Need-returns-3
-returns-3 c = λ q. let a = c .before .before .before .before .before .before .before .before .before .before .before .before .before .before .args in told-none (a .w .now) (lentAll (a .s .now) (a .out .now) q) _ _ (c .of-changed .result) (subscribes (a .w .now) (a .s .now) _ (c .before .before .before .subscribe .result) (a .out .now) q (c .before .before .before .before .before .before .before .if3 .taken) (c .before .before .before .subscribe .ensures)) (c .of-changed .ensures)
+returns-3 c = λ q.
+    let s = c .before .before .before in
+    let t = s .before .before .before .before .before in
+    let a = t .before .before .before .before .before .before .before .args in
+    told-none (a .w .now) (lentAll (a .s .now) (a .out .now) q) _ _ (c .of-changed .result)
+    (subscribes (a .w .now) (a .s .now) _ (s .subscribe .result) (a .out .now) q (t .if3 .taken) (s .subscribe .ensures)) (c .of-changed .ensures)
 
 returns-4 : tie.Need-returns-4
 returns-4 c = λ q. let a = c .before .before .before .before .before .before .before .before .args in no-call (a .w .now) (lentAll (a .s .now) (a .out .now) q) (c .no-call .result) (call-0 (a .w .now) (marketOf (a .s .now)) (records (a .out .now)) (reportRoom q) (omega arith)) (c .no-call .ensures)
@@ -42,7 +47,8 @@ first-six-spec =
     returns-2
     (λ c. search needs)
     (λ c. search needs)
-    (λ c κs. c .before .before .before .before .before .before .before .before .before .before .pre .0)
+    (λ c. search needs)
+    (λ c κs. c .before .before .before .before .before .before .before .before .before .before .before .pre .0)
     (λ c κs. search needs)
     (λ c. search needs)
     returns-3

@@ -13,12 +13,12 @@ subscribe-requires c κs = says-yes (Sound _) (c .before .before .is-sound .ensu
 returns : tie.Need-returns
 returns c =
     let a = c .before .before .before .before .before .before .before .before .args in
-    met (Subscribe (a .conn) (a .t)) (alone (a .s .now)) _ _ (says-yes (Sound _) (c .before .before .before .before .before .is-sound .ensures) (c .before .before .before .before .if1 .taken)) (c .before .before .subscribe .ensures)
+    met (Subscribe (a .conn) (a .limit) (a .t)) (alone (a .s .now)) _ _ (says-yes (Sound _) (c .before .before .before .before .before .is-sound .ensures) (c .before .before .before .before .if1 .taken)) (c .before .before .subscribe .ensures)
 
 returns-2 : tie.Need-returns-2
 returns-2 c =
     let a = c .before .before .before .before .args in
-    unmet (Subscribe (a .conn) (a .t)) (alone (a .s .now)) (says-no (Sound _) (c .before .is-sound .ensures) (c .if1 .left))
+    unmet (Subscribe (a .conn) (a .limit) (a .t)) (alone (a .s .now)) (says-no (Sound _) (c .before .is-sound .ensures) (c .if1 .left))
 
 pub subscribe-spec : {M : Type 1} → statement M
 subscribe-spec =

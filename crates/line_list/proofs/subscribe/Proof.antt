@@ -11,8 +11,8 @@ place-of-requires c κs = lined-sound _ (c .before .before .pre .0)
 stands-at-requires : tie.Need-stands-at-requires
 stands-at-requires c κs = lined-sound _ (c .before .before .before .before .pre .0)
 
-replace-requires : tie.Need-replace-requires
-replace-requires c κs =
+put-waiting-requires : tie.Need-put-waiting-requires
+put-waiting-requires c κs =
     let a = c .before .before .before .before .before .before .before in
     let q = c .before .before in
     let stands = says-yes (Stands _ (a .pre .0) (q .before .before .place-of .result) (a .args .conn)) (q .stands-at .ensures) (c .before .if1 .taken) in
@@ -32,7 +32,7 @@ returns c =
     let q = c .before .before .before .before .before in
     let p = q .before .before .place-of in
     let stands = says-yes (Stands _ (a .pre .0) (p .result) (a .args .conn)) (q .stands-at .ensures) (c .before .before .before .before .if1 .taken) in
-    replaced _ (a .pre .0) _ (a .args .conn) (p .ensures) (a .args .t) stands _ (c .before .before .replace .ensures)
+    replaced _ (a .pre .0) _ (a .args .conn) (p .ensures) (a .args .limit) (a .args .t) stands _ (c .before .before .put-waiting .ensures)
 
 returns-2 : tie.Need-returns-2
 returns-2 c =
@@ -40,7 +40,7 @@ returns-2 c =
     let q = c .before .before .before .before .before in
     let p = q .before .before .place-of in
     let absent = says-no (Stands _ (a .pre .0) (p .result) (a .args .conn)) (q .stands-at .ensures) (c .before .before .before .before .if1 .left) in
-    put-in _ (a .pre .0) _ (a .args .conn) (p .ensures) absent (a .args .t) _ (c .before .before .insert .ensures)
+    put-in _ (a .pre .0) _ (a .args .conn) (p .ensures) absent (a .args .limit) (a .args .t) _ (c .before .before .insert .ensures)
 
 pub subscribe-spec : {M : Type 1} → statement M
 subscribe-spec =
@@ -48,7 +48,7 @@ subscribe-spec =
     (tie.spec
     place-of-requires
     stands-at-requires
-    replace-requires
+    put-waiting-requires
     insert-requires
     (λ c. search needs)
     returns

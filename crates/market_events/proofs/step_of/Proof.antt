@@ -4,6 +4,11 @@ use borrow.Author.Needs.{needs}
 use Rattle.market_events.proofs.step_of.Statement.{statement}
 use Rattle.market_events.proofs.step_of.Tie as tie
 
+limit-at-requires : tie.Need-limit-at-requires
+limit-at-requires c κs =
+    let s = c .before .before .before in
+    line-at (s .pre .0) (s .pre .1)
+
 line-at-requires : tie.Need-line-at-requires
 line-at-requires c κs =
     let s = c .before .before .before .before in
@@ -25,9 +30,9 @@ returns c message =
     let he = hl .before in
     let li = he .before in
     let s = li .before .before in
-    step-said (s .pre .0) (s .pre .1) (s .args .key) (li .limits .result) (he .head .result) (ke .keys .result .now) (hl .held-limit .result) (la .line-at .result)
+    step-said (s .pre .0) (s .pre .1) (s .args .key) (li .limits .result) (he .head .result) (ke .keys .result .now) (hl .limit-at .result) (la .line-at .result)
     (c .event .result)
-    (li .limits .ensures) (he .head .ensures) (ke .keys .ensures) (hl .held-limit .ensures) (la .line-at .ensures) (c .event .ensures) message
+    (li .limits .ensures) (he .head .ensures) (ke .keys .ensures) (hl .limit-at .ensures) (la .line-at .ensures) (c .event .ensures) message
 
 pub step-of-spec : {M : Type 1} → statement M
 step-of-spec =
@@ -35,7 +40,7 @@ step-of-spec =
     (tie.spec
     (λ c κs. search needs)
     (λ c κs. search needs)
-    (λ c κs. search needs)
+    limit-at-requires
     line-at-requires
     (λ c κs. search needs)
     event-requires

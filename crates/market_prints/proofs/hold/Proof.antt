@@ -15,8 +15,8 @@ returns c =
     let s = a .before .before .before in
     held-already (s .pre) (s .args .key) (s .args .message) (sym (a .holds-print .ensures) ∙ c .if1 .taken)
 
-held-limit-requires : tie.Need-held-limit-requires
-held-limit-requires c κs = c .before .before .before .before .before .pre .0 .sized .header
+limit-at-requires : tie.Need-limit-at-requires
+limit-at-requires c κs = let s = c .before .before .before .before .before in fits-sound (s .args .s .now) (s .pre .0) (s .args .i) (s .pre .1 .0) .at
 
 prints-held-requires : tie.Need-prints-held-requires
 prints-held-requires c κs = let s = c .before .before .before .before .before .before .before in fits-sound (s .args .s .now) (s .pre .0) (s .args .i) (s .pre .1 .0) .at
@@ -35,7 +35,7 @@ returns-2 c =
     let l = c .before .before in
     let d = l .before .before .before .before in
     let t = d .before .before in
-    let h = t .before .before .before .held-limit .ensures in
+    let h = t .before .before .before .limit-at .ensures in
     let e = t .before .before .before .before .before in
     let s = e .before .before .before .before in
     line-fails (s .pre) (s .args .key) (s .args .message) (sym (e .before .holds-print .ensures) ∙ e .if1 .left) (t .before .prints-held .ensures) (omega (arith, t .if2 .taken)) (d .drop-prints .kept .0) (l .set-line .kept .0) (d .drop-prints .ensures) (l .set-line .ensures)
@@ -43,7 +43,7 @@ returns-2 c =
 hold-print-requires : tie.Need-hold-print-requires
 hold-print-requires c κs =
     let t = c .before in
-    let h = t .before .before .before .held-limit .ensures in
+    let h = t .before .before .before .limit-at .ensures in
     let e = t .before .before .before .before .before in
     let s = e .before .before .before .before in
     hold-room (s .pre) (s .args .key) (s .args .message) (sym (e .before .holds-print .ensures) ∙ e .if1 .left) (t .before .prints-held .ensures) (omega (arith, t .if2 .left))
@@ -52,7 +52,7 @@ returns-3 : tie.Need-returns-3
 returns-3 c =
     let k = c .before .before in
     let t = k .before .before in
-    let h = t .before .before .before .held-limit .ensures in
+    let h = t .before .before .before .limit-at .ensures in
     let e = t .before .before .before .before .before in
     let s = e .before .before .before .before in
     held-more (s .pre) (s .args .key) (s .args .message) (sym (e .before .holds-print .ensures) ∙ e .if1 .left) (t .before .prints-held .ensures) (omega (arith, t .if2 .left)) (k .hold-print .kept .0) (k .hold-print .ensures)
@@ -64,7 +64,7 @@ hold-spec =
     holds-print-requires
     (λ c. search needs)
     returns
-    held-limit-requires
+    limit-at-requires
     prints-held-requires
     drop-prints-requires
     set-line-requires

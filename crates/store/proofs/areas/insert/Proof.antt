@@ -7,10 +7,10 @@ use Rattle.store.proofs.areas.insert.Statement.{statement}
 use Rattle.store.proofs.areas.insert.Tie as tie
 
 abbrev Inv-loop : tie.InvT-loop
-Inv-loop s₀ i conn t n h width j₀ a₀ s j a = Opening s₀ s i j a
+Inv-loop s₀ i conn limit t n h width j₀ a₀ s j a = Opening s₀ s i j a
 
 abbrev μ-loop : tie.MeasureT-loop
-μ-loop s₀ i conn t n h width j₀ a₀ s j a = j
+μ-loop s₀ i conn limit t n h width j₀ a₀ s j a = j
 
 loop-holds : tie.Need-loop-holds Inv-loop μ-loop
 loop-holds c = opening-start _ _ (c .before .before .before .before .before .pre) _ (c .line-start .ensures)
@@ -69,7 +69,7 @@ returns c =
     let l = c .before .before .before .before .before .loop in
     let s = c .before .before .before .before .before .before .before .before .before .before .before in
     let p = c .before .before .put-waiting in
-    opening-done _ _ (s .pre) _ _ _ (l .inv) (omega arith) (p .last .0) (p .kept .0) (s .args .conn) (s .args .t) (p .ensures)
+    opening-done _ _ (s .pre) _ _ _ (l .inv) (omega arith) (p .last .0) (p .kept .0) (s .args .conn) (s .args .limit) (s .args .t) (p .ensures)
 
 pub insert-spec : {M : Type 1} → statement M
 insert-spec =
