@@ -117,7 +117,7 @@ impl<'a> Maker<'a> {
     }
 
     fn subscribe(&mut self, m: &Market) -> Call {
-        let conn = self.conn(m, |c| c.is_none_or(|c| c.line == Line::Failed));
+        let conn = self.conn(m, |c| c.map_or(true, |c| c.line == Line::Failed));
         Call::Subscribe { conn, limit: self.limit() }
     }
 

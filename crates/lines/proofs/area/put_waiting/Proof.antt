@@ -1,4 +1,5 @@
-use mathlib.Core.Path.{_∙_}
+use mathlib.Core.Path.{sym, subst, _∙_}
+use Prim.Native.Nat.{ℕ, _≤_}
 use native.Mathlib.Omega.{arith}
 use lib.ListN.{length-set}
 use Rattle.lines.proofs.AreaLaws.{named-size, waiting-done}
@@ -12,14 +13,14 @@ slice-write-area-2 c = let a = c .before in omega (arith, length-set (a .args .a
 set-prints-requires : tie.Need-set-prints-requires
 set-prints-requires c κs =
     let s = c .before .before .before in
-    let a = s .before .before .before .before .args in
-    omega (arith, s .set-line .kept .0, named-size (a .area .now) (a .conn) (a .limit))
+    let a = s .before .before .before .before in
+    subst (λ (n : ℕ). 32 ≤ n) (sym (s .set-line .kept .0 ∙ named-size (a .args .area .now) (a .args .conn) _)) (a .pre)
 
 same-length : tie.Need-same-length
 same-length c =
     let s = c .before .before .before .before .before .before in
     let a = s .before .before .before .before .args in
-    c .before .before .set-prints .kept .0 ∙ s .set-line .kept .0 ∙ named-size (a .area .now) (a .conn) (a .limit)
+    c .before .before .set-prints .kept .0 ∙ s .set-line .kept .0 ∙ named-size (a .area .now) (a .conn) _
 
 returns : tie.Need-returns
 returns c =
