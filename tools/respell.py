@@ -27,7 +27,7 @@ OTHERS = {
     "prints": {"hasKey": "holds_key", "hasPair": "holds_pair"},
 }
 
-TOKEN = re.compile(r"[^\W\d][\w'₀-₉]*(?:-[\w'₀-₉≤≡≢+*∷]+)*")
+TOKEN = re.compile(r"(?<![\w'])[^\W\d][\w'₀-₉]*(?:-[\w'₀-₉≤≡≢+*∷]+)*")
 
 
 def snake(part):

@@ -15,11 +15,11 @@ use Rattle.json.proofs.Tests.{and-true, within-high}
 
 tail-below : (b : ℕ) → tail b ≡ true → b < 255
 unfolding tail
-tail-below b h = omega (arith, within-high 0x80 0x_bf b h)
+tail-below b h = omega (arith, within-high 0x80 0xBF b h)
 
 plain-below : (a : ℕ) → plain a ≡ true → a < 255
 unfolding plain
-plain-below a h = omega (arith, within-high 0x20 0x7_f a (and-true (within 0x20 0x7_f a) (not (eqb a 0x22) && not (eqb a 0x5_c)) h).0)
+plain-below a h = omega (arith, within-high 0x20 0x7F a (and-true (within 0x20 0x7F a) (not (eqb a 0x22) && not (eqb a 0x5C)) h).0)
 
 within-below : (low high b : ℕ) → high < 255 → within low high b ≡ true → b < 255
 within-below low high b l h = omega (arith, within-high low high b h)
@@ -33,33 +33,33 @@ range-below low high a b l h =
 three-below : (a b : ℕ) → first_of_three a b ≡ true → (a < 255) × (b < 255)
 unfolding first_of_three
 three-below a b h =
-    from-cond (eqb a 0x_e0) h (λ e k. (omega (arith, eqb-true a 0x_e0 e), within-below 0x_a0 0x_bf b (omega arith) k))
-    (λ e k. from-cond (eqb a 0x_ed) k (λ f m. (omega (arith, eqb-true a 0x_ed f), within-below 0x80 0x9_f b (omega arith) m))
-    (λ f m. range-below 0x_e1 0x_ef a b (omega arith) m))
+    from-cond (eqb a 0xE0) h (λ e k. (omega (arith, eqb-true a 0xE0 e), within-below 0xA0 0xBF b (omega arith) k))
+    (λ e k. from-cond (eqb a 0xED) k (λ f m. (omega (arith, eqb-true a 0xED f), within-below 0x80 0x9F b (omega arith) m))
+    (λ f m. range-below 0xE1 0xEF a b (omega arith) m))
 
 four_below : (a b : ℕ) → first_of_four a b ≡ true → (a < 255) × (b < 255)
 unfolding first_of_four
 four_below a b h =
-    from-cond (eqb a 0x_f0) h (λ e k. (omega (arith, eqb-true a 0x_f0 e), within-below 0x90 0x_bf b (omega arith) k))
-    (λ e k. from-cond (eqb a 0x_f4) k (λ f m. (omega (arith, eqb-true a 0x_f4 f), within-below 0x80 0x8_f b (omega arith) m))
-    (λ f m. range-below 0x_f1 0x_f3 a b (omega arith) m))
+    from-cond (eqb a 0xF0) h (λ e k. (omega (arith, eqb-true a 0xF0 e), within-below 0x90 0xBF b (omega arith) k))
+    (λ e k. from-cond (eqb a 0xF4) k (λ f m. (omega (arith, eqb-true a 0xF4 f), within-below 0x80 0x8F b (omega arith) m))
+    (λ f m. range-below 0xF1 0xF3 a b (omega arith) m))
 
 -- what a backslash and a byte stand for
-quoted-below : (b : ℕ) → (eqb b 0x22 || (eqb b 0x5_c || eqb b 0x2_f)) ≡ true → b < 255
-quoted-below b h = go (eqb b 0x22) (eqb b 0x5_c) refl refl h
+quoted-below : (b : ℕ) → (eqb b 0x22 || (eqb b 0x5C || eqb b 0x2F)) ≡ true → b < 255
+quoted-below b h = go (eqb b 0x22) (eqb b 0x5C) refl refl h
   where
-    go : (p q : Bool) → eqb b 0x22 ≡ p → eqb b 0x5_c ≡ q → (p || (q || eqb b 0x2_f)) ≡ true → b < 255
+    go : (p q : Bool) → eqb b 0x22 ≡ p → eqb b 0x5C ≡ q → (p || (q || eqb b 0x2F)) ≡ true → b < 255
     go true q e f k = omega (arith, eqb-true b 0x22 e)
-    go false true e f k = omega (arith, eqb-true b 0x5_c f)
-    go false false e f k = omega (arith, eqb-true b 0x2_f k)
+    go false true e f k = omega (arith, eqb-true b 0x5C f)
+    go false false e f k = omega (arith, eqb-true b 0x2F k)
 
 escape-below : (b : ℕ) → escape_of b < 256 → escape_of b < 255
 unfolding escape_of
 escape-below b =
-    by_cond P (eqb b 0x22 || (eqb b 0x5_c || eqb b 0x2_f)) (λ e h. quoted-below b e)
+    by_cond P (eqb b 0x22 || (eqb b 0x5C || eqb b 0x2F)) (λ e h. quoted-below b e)
     (λ e. by_cond P (eqb b 0x62) (λ e h. omega arith)
     (λ e. by_cond P (eqb b 0x66) (λ e h. omega arith)
-    (λ e. by_cond P (eqb b 0x6_e) (λ e h. omega arith)
+    (λ e. by_cond P (eqb b 0x6E) (λ e h. omega arith)
     (λ e. by_cond P (eqb b 0x72) (λ e h. omega arith)
     (λ e. by_cond P (eqb b 0x74) (λ e h. omega arith) (λ e h. absurd (omega arith)))))))
   where
@@ -67,7 +67,7 @@ escape-below b =
     P n = n < 256 → n < 255
 
 -- UTF-8
-utf8-below : (n : ℕ) → n ≤ 0x10_ffff → Below (utf8 n)
+utf8-below : (n : ℕ) → n ≤ 0x10FFFF → Below (utf8 n)
 unfolding utf8
 utf8-below n h =
     by_cond Below (ltb n 0x80) (λ e. (omega (arith, ltb-true n 0x80 e), tt))
@@ -75,24 +75,24 @@ utf8-below n h =
     (λ e. by_cond Below (ltb n 0x10000) (λ e. let k = ltb-true n 0x10000 e in (omega arith, (omega arith, (omega arith, tt))))
     (λ e. (omega arith, (omega arith, (omega arith, (omega arith, tt)))))))
 
-scalar_below : (n : ℕ) → is_scalar n ≡ true → n ≤ 0x10_ffff
+scalar_below : (n : ℕ) → is_scalar n ≡ true → n ≤ 0x10FFFF
 unfolding is_scalar
-scalar_below n h = go (ltb n 0x_d800) refl h
+scalar_below n h = go (ltb n 0xD800) refl h
   where
-    go : (x : Bool) → ltb n 0x_d800 ≡ x → (x || within 0x_e000 0x_ffff n) ≡ true → n ≤ 0x10_ffff
-    go true e k = omega (arith, ltb-true n 0x_d800 e)
-    go false e k = omega (arith, within-high 0x_e000 0x_ffff n k)
+    go : (x : Bool) → ltb n 0xD800 ≡ x → (x || within 0xE000 0xFFFF n) ≡ true → n ≤ 0x10FFFF
+    go true e k = omega (arith, ltb-true n 0xD800 e)
+    go false e k = omega (arith, within-high 0xE000 0xFFFF n k)
 
-pair-below : (m n : ℕ) → (is_high m && is_low n) ≡ true → joined m n ≤ 0x10_ffff
+pair-below : (m n : ℕ) → (is_high m && is_low n) ≡ true → joined m n ≤ 0x10FFFF
 unfolding is_high is_low joined
 pair-below m n h =
     let p = and-true (is_high m) (is_low n) h in
-    omega (arith, within-high 0x_d800 0x_dbff m p.0, within-high 0x_dc00 0x_dfff n p.1)
+    omega (arith, within-high 0xD800 0xDBFF m p.0, within-high 0xDC00 0xDFFF n p.1)
 
 -- ---- a char, a string, a name
 char_below : {s x r : List ℕ} → Char s x r → Below x
 char_below (one {a} h) = (plain-below a h, tt)
-char_below (two {a} {b} h) = let p = range-below 0x_c2 0x_df a b (omega arith) h in (p.0, (p.1, tt))
+char_below (two {a} {b} h) = let p = range-below 0xC2 0xDF a b (omega arith) h in (p.0, (p.1, tt))
 char_below (three {a} {b} {c} h) =
     let p = and-true (first_of_three a b) (tail c) h in
     let q = three-below a b p.0 in

@@ -53,8 +53,8 @@ unfolding little_endian
 little-length zero n = refl
 little-length (suc k) n = ap suc (little-length k (n / 256))
 
-marked-length : (x : List ℕ) → length (x ++ 0x_ff ∷ []) ≡ length x + 1
-marked-length x = length-append x (0x_ff ∷ [])
+marked-length : (x : List ℕ) → length (x ++ 0xFF ∷ []) ≡ length x + 1
+marked-length x = length-append x (0xFF ∷ [])
 
 pub array-length : (vs : Items) → length (canonical (array vs)) ≡ 9 + length (canonical_items vs)
 unfolding canonical
@@ -73,7 +73,7 @@ pub member-length :
     length (canonical_members (member x v ms)) ≡ length x + 1 + length (canonical v) + length (canonical_members ms)
 unfolding canonical_members
 member-length x v ms =
-    omega (arith, length-append x (0x_ff ∷ (canonical v ++ canonical_members ms)), length-append (canonical v) (canonical_members ms))
+    omega (arith, length-append x (0xFF ∷ (canonical v ++ canonical_members ms)), length-append (canonical v) (canonical_members ms))
 
 -- a member put among others makes them longer by itself at most
 put-length :

@@ -50,7 +50,7 @@ took-digits1 (digits {b} h d) = more b (omega (arith, digit-high b h)) (took-dig
 
 took-minus : {s r : List ℕ} → Minus s r → Took s r
 took-minus no_minus = none
-took-minus minus = more 0x2_d (omega arith) none
+took-minus minus = more 0x2D (omega arith) none
 
 took-int : {s r : List ℕ} → Int s r → Took s r
 took-int zero = more 0x30 (omega arith) none
@@ -58,12 +58,12 @@ took-int (from_one {b} h d) = more b (omega (arith, within-high 0x31 0x39 b h)) 
 
 took-frac : {s r : List ℕ} → Frac s r → Took s r
 took-frac no_frac = none
-took-frac (frac d) = more 0x2_e (omega arith) (took-digits1 d)
+took-frac (frac d) = more 0x2E (omega arith) (took-digits1 d)
 
 took-sign : {s r : List ℕ} → Sign s r → Took s r
 took-sign no_sign = none
-took-sign negative = more 0x2_d (omega arith) none
-took-sign positive = more 0x2_b (omega arith) none
+took-sign negative = more 0x2D (omega arith) none
+took-sign positive = more 0x2B (omega arith) none
 
 e-below : (b : ℕ) → (eqb b 0x65 || eqb b 0x45) ≡ true → b < 255
 e-below b h = go (eqb b 0x65) refl h

@@ -19,17 +19,17 @@ use Rattle.content.proofs.NumberTexts.{Below}
 -- ---- texts: the bytes in front of the first FF, and those behind it
 past_ff : List ℕ → List ℕ
 past_ff [] = []
-past_ff (b ∷ s) = cond (eqb b 0x_ff) s (past_ff s)
+past_ff (b ∷ s) = cond (eqb b 0xFF) s (past_ff s)
 
-pub ff-ends : (x r : List ℕ) → Below x → up_to_ff (x ++ 0x_ff ∷ r) ≡ x
+pub ff-ends : (x r : List ℕ) → Below x → up_to_ff (x ++ 0xFF ∷ r) ≡ x
 unfolding up_to_ff
 ff-ends [] r h = refl
-ff-ends (b ∷ x) r h = rw (ne_eqb b 0x_ff (λ e. omega arith), ff-ends x r h.1)
+ff-ends (b ∷ x) r h = rw (ne_eqb b 0xFF (λ e. omega arith), ff-ends x r h.1)
 
-ff-past : (x r : List ℕ) → Below x → past_ff (x ++ 0x_ff ∷ r) ≡ r
+ff-past : (x r : List ℕ) → Below x → past_ff (x ++ 0xFF ∷ r) ≡ r
 unfolding past_ff
 ff-past [] r h = refl
-ff-past (b ∷ x) r h = rw (ne_eqb b 0x_ff (λ e. omega arith), ff-past x r h.1)
+ff-past (b ∷ x) r h = rw (ne_eqb b 0xFF (λ e. omega arith), ff-past x r h.1)
 
 -- ---- counts: the number that k bytes write
 number_of : ℕ → List ℕ → ℕ
@@ -114,8 +114,8 @@ mutual
   read_back (suc n) null r b l c = refl
   read_back (suc n) (boolean true) r b l c = refl
   read_back (suc n) (boolean false) r b l c = refl
-  read_back (suc n) (number x) r b l c = rw (append_assoc x (0x_ff ∷ []) r, ff-ends x r c, ff-past x r c)
-  read_back (suc n) (string x) r b l c = rw (append_assoc x (0x_ff ∷ []) r, ff-ends x r c, ff-past x r c)
+  read_back (suc n) (number x) r b l c = rw (append_assoc x (0xFF ∷ []) r, ff-ends x r c, ff-past x r c)
+  read_back (suc n) (string x) r b l c = rw (append_assoc x (0xFF ∷ []) r, ff-ends x r c, ff-past x r c)
   read_back (suc n) (array vs) r b l c =
       let h : length (canonical_items vs) < n = omega (arith, array-length vs) in
       let k : items vs < 256 ^ 8 = omega (arith, items-counted vs) in
@@ -157,7 +157,7 @@ mutual
   members-back (suc n) (member x v ms) r b l c =
       let e = member-length x v ms in
       rw (
-        append_assoc x (0x_ff ∷ (canonical v ++ canonical_members ms)) r,
+        append_assoc x (0xFF ∷ (canonical v ++ canonical_members ms)) r,
         append_assoc (canonical v) (canonical_members ms) r,
         ff-ends x (canonical v ++ (canonical_members ms ++ r)) c.0,
         ff-past x (canonical v ++ (canonical_members ms ++ r)) c.0,

@@ -41,11 +41,11 @@ outside-written x h = go (all_digits x && ltb (decimal 0 x) (2 ^ 64)) h
     go false k = refl
 
 -- behind a minus
-minus_number : (x : List ℕ) (n : ℕ) → decimal_of x ≡ Decimal.Number n → allowed (0x2_d ∷ x) ≡ within 1 (2 ^ 63) n
+minus_number : (x : List ℕ) (n : ℕ) → decimal_of x ≡ Decimal.Number n → allowed (0x2D ∷ x) ≡ within 1 (2 ^ 63) n
 unfolding allowed
 minus_number x n h = let w = number-written x n h in rw (w.digits, w.value)
 
-minus-outside : (x : List ℕ) → decimal_of x ≡ Decimal.Outside → allowed (0x2_d ∷ x) ≡ false
+minus-outside : (x : List ℕ) → decimal_of x ≡ Decimal.Outside → allowed (0x2D ∷ x) ≡ false
 unfolding allowed within
 minus-outside x h = go (all_digits x) (ltb (decimal 0 x) (2 ^ 64)) refl (outside-written x h)
   where
@@ -57,23 +57,23 @@ minus-outside x h = go (all_digits x) (ltb (decimal 0 x) (2 ^ 64)) refl (outside
     go true false p k = rw (lt-leb (decimal 0 x) (2 ^ 63) (omega (arith, ltb-false (decimal 0 x) (2 ^ 64) p)), and-false (leb 1 (decimal 0 x)))
 
 -- without one
-other-number : (b : ℕ) (x : List ℕ) (n : ℕ) → (b ≡ 0x2_d → ⊥) → decimal_of (b ∷ x) ≡ Decimal.Number n → allowed (b ∷ x) ≡ true
+other-number : (b : ℕ) (x : List ℕ) (n : ℕ) → (b ≡ 0x2D → ⊥) → decimal_of (b ∷ x) ≡ Decimal.Number n → allowed (b ∷ x) ≡ true
 unfolding allowed
-other-number b x n m h = let w = number-written (b ∷ x) n h in rw (ne_eqb b 0x2_d m, w.digits, w.fits)
+other-number b x n m h = let w = number-written (b ∷ x) n h in rw (ne_eqb b 0x2D m, w.digits, w.fits)
 
-other-outside : (b : ℕ) (x : List ℕ) → (b ≡ 0x2_d → ⊥) → decimal_of (b ∷ x) ≡ Decimal.Outside → allowed (b ∷ x) ≡ false
+other-outside : (b : ℕ) (x : List ℕ) → (b ≡ 0x2D → ⊥) → decimal_of (b ∷ x) ≡ Decimal.Outside → allowed (b ∷ x) ≡ false
 unfolding allowed
-other-outside b x m h = rw (ne_eqb b 0x2_d m, outside-written (b ∷ x) h)
+other-outside b x m h = rw (ne_eqb b 0x2D m, outside-written (b ∷ x) h)
 
 -- between two places of a text
 module _ (t : List ℕ) (from to : ℕ) (h : from < to) (k : to ≤ length t) where
   front : get_or t from 0 ≡ byte_at t from
   front = byte-at t from (omega arith)
 
-  minus-part : get_or t from 0 ≡ 0x2_d → take (to - from) (drop from t) ≡ 0x2_d ∷ take (to - (from + 1)) (drop (from + 1) t)
+  minus-part : get_or t from 0 ≡ 0x2D → take (to - from) (drop from t) ≡ 0x2D ∷ take (to - (from + 1)) (drop (from + 1) t)
   minus-part m = part-on t from to h k ∙ ap (λ (b : ℕ). b ∷ take (to - (from + 1)) (drop (from + 1) t)) (sym front ∙ m)
 
-  module _ (m : get_or t from 0 ≡ 0x2_d) where
+  module _ (m : get_or t from 0 ≡ 0x2D) where
     pub minus-within :
         (n : ℕ) → decimal_of (take (to - (from + 1)) (drop (from + 1) t)) ≡ Decimal.Number n → allowed (take (to - from) (drop from t)) ≡ within 1 (2 ^ 63) n
     minus-within n d = ap allowed (minus-part m) ∙ minus_number _ n d
@@ -82,8 +82,8 @@ module _ (t : List ℕ) (from to : ℕ) (h : from < to) (k : to ≤ length t) wh
         decimal_of (take (to - (from + 1)) (drop (from + 1) t)) ≡ Decimal.Outside → allowed (take (to - from) (drop from t)) ≡ false
     minus-refused d = ap allowed (minus-part m) ∙ minus-outside _ d
 
-  module _ (m : get_or t from 0 ≡ 0x2_d → ⊥) where
-    no_minus : byte_at t from ≡ 0x2_d → ⊥
+  module _ (m : get_or t from 0 ≡ 0x2D → ⊥) where
+    no_minus : byte_at t from ≡ 0x2D → ⊥
     no_minus e = m (front ∙ e)
 
     pub digits-allowed : (n : ℕ) → decimal_of (take (to - from) (drop from t)) ≡ Decimal.Number n → allowed (take (to - from) (drop from t)) ≡ true

@@ -56,10 +56,10 @@ module _ (s : List ℕ) where
   unfolding plain within
   found-one e = found s _ 1 _ (split 1 s (inside plain s 0 refl e)) (one e)
 
-  pub found-two : (within 0x_c2 0x_df (byte_at s 0) && tail (byte_at s 1)) ≡ true → Found s 2
+  pub found-two : (within 0xC2 0xDF (byte_at s 0) && tail (byte_at s 1)) ≡ true → Found s 2
   unfolding tail within
   found-two e =
-      found s _ 2 _ (split 2 s (inside tail s 1 refl (and-true-right (within 0x_c2 0x_df (byte_at s 0)) (tail (byte_at s 1)) e))) (two e)
+      found s _ 2 _ (split 2 s (inside tail s 1 refl (and-true-right (within 0xC2 0xDF (byte_at s 0)) (tail (byte_at s 1)) e))) (two e)
 
   pub found-three : (first_of_three (byte_at s 0) (byte_at s 1) && tail (byte_at s 2)) ≡ true → Found s 3
   unfolding tail within
@@ -72,13 +72,13 @@ module _ (s : List ℕ) where
       let h = and-true-right (first_of_four (byte_at s 0) (byte_at s 1)) (tail (byte_at s 2) && tail (byte_at s 3)) e in
       found s _ 4 _ (split 4 s (inside tail s 3 refl (and-true-right (tail (byte_at s 2)) (tail (byte_at s 3)) h))) (four e)
 
-  module _ (slash : eqb (byte_at s 0) 0x5_c ≡ true) where
+  module _ (slash : eqb (byte_at s 0) 0x5C ≡ true) where
     pub found-escaped : ltb (escape_of (byte_at s 1)) 256 ≡ true → Found s 2
     unfolding escape_of
     found-escaped e =
         let h = split 2 s (inside (λ b. ltb (escape_of b) 256) s 1 refl e) in
-        let q = eqb-true (byte_at s 0) 0x5_c slash in
-        let k : s ≡ 0x5_c ∷ byte_at s 1 ∷ drop 2 s = cc in
+        let q = eqb-true (byte_at s 0) 0x5C slash in
+        let k : s ≡ 0x5C ∷ byte_at s 1 ∷ drop 2 s = cc in
         found s _ 2 _ k (escaped e)
 
     module _ (u : eqb (byte_at s 1) 0x75 ≡ true) where
@@ -88,29 +88,29 @@ module _ (s : List ℕ) where
           let f : ℕ → Bool = λ b. is_scalar (hex_four (byte_at s 2) (byte_at s 3) (byte_at s 4) b) in
           let n : f 256 ≡ false = rw (hex-short (byte_at s 2) (byte_at s 3) (byte_at s 4)) in
           let h = split 6 s (inside f s 5 n e) in
-          let p = eqb-true (byte_at s 0) 0x5_c slash in
+          let p = eqb-true (byte_at s 0) 0x5C slash in
           let q = eqb-true (byte_at s 1) 0x75 u in
-          let k : s ≡ 0x5_c ∷ 0x75 ∷ byte_at s 2 ∷ byte_at s 3 ∷ byte_at s 4 ∷ byte_at s 5 ∷ drop 6 s = cc in
+          let k : s ≡ 0x5C ∷ 0x75 ∷ byte_at s 2 ∷ byte_at s 3 ∷ byte_at s 4 ∷ byte_at s 5 ∷ drop 6 s = cc in
           found s _ 6 _ k (unicode e)
 
-      pub found-pair : (is_high (hex_at s 2) && (eqb (byte_at s 6) 0x5_c && (eqb (byte_at s 7) 0x75 && is_low (hex_at s 8)))) ≡ true → Found s 12
+      pub found-pair : (is_high (hex_at s 2) && (eqb (byte_at s 6) 0x5C && (eqb (byte_at s 7) 0x75 && is_low (hex_at s 8)))) ≡ true → Found s 12
       unfolding is_low within
       found-pair e =
           let g = is_high (hex_at s 2) in
           let low = is_low (hex_at s 8) in
-          let e₁ = and-true-right g (eqb (byte_at s 6) 0x5_c && (eqb (byte_at s 7) 0x75 && low)) e in
-          let e₂ = and-true-right (eqb (byte_at s 6) 0x5_c) (eqb (byte_at s 7) 0x75 && low) e₁ in
+          let e₁ = and-true-right g (eqb (byte_at s 6) 0x5C && (eqb (byte_at s 7) 0x75 && low)) e in
+          let e₂ = and-true-right (eqb (byte_at s 6) 0x5C) (eqb (byte_at s 7) 0x75 && low) e₁ in
           let e₃ = and-true-right (eqb (byte_at s 7) 0x75) low e₂ in
           let f : ℕ → Bool = λ b. is_low (hex_four (byte_at s 8) (byte_at s 9) (byte_at s 10) b) in
           let n : f 256 ≡ false = rw (hex-short (byte_at s 8) (byte_at s 9) (byte_at s 10)) in
           let h = split 12 s (inside f s 11 n e₃) in
-          let p = eqb-true (byte_at s 0) 0x5_c slash in
+          let p = eqb-true (byte_at s 0) 0x5C slash in
           let q = eqb-true (byte_at s 1) 0x75 u in
-          let p₂ = eqb-true (byte_at s 6) 0x5_c (and-true-left (eqb (byte_at s 6) 0x5_c) (eqb (byte_at s 7) 0x75 && low) e₁) in
+          let p₂ = eqb-true (byte_at s 6) 0x5C (and-true-left (eqb (byte_at s 6) 0x5C) (eqb (byte_at s 7) 0x75 && low) e₁) in
           let q₂ = eqb-true (byte_at s 7) 0x75 (and-true-left (eqb (byte_at s 7) 0x75) low e₂) in
           let k :
-          s ≡ 0x5_c ∷ 0x75 ∷ byte_at s 2 ∷ byte_at s 3 ∷ byte_at s 4 ∷ byte_at s 5
-          ∷ 0x5_c ∷ 0x75 ∷ byte_at s 8 ∷ byte_at s 9 ∷ byte_at s 10 ∷ byte_at s 11 ∷ drop 12 s = cc in
+          s ≡ 0x5C ∷ 0x75 ∷ byte_at s 2 ∷ byte_at s 3 ∷ byte_at s 4 ∷ byte_at s 5
+          ∷ 0x5C ∷ 0x75 ∷ byte_at s 8 ∷ byte_at s 9 ∷ byte_at s 10 ∷ byte_at s 11 ∷ drop 12 s = cc in
           let both : (g && low) ≡ true =
-          rw (and-true-left g (eqb (byte_at s 6) 0x5_c && (eqb (byte_at s 7) 0x75 && low)) e) e₃ in
+          rw (and-true-left g (eqb (byte_at s 6) 0x5C && (eqb (byte_at s 7) 0x75 && low)) e) e₃ in
           found s _ 12 _ k (pair both)

@@ -19,13 +19,13 @@ pub data Kind : Type 0 where
 unfoldable pub pick : {A : Type 0} → (Kind → A) → List ℕ → A
 pick f s =
     cond (plain (byte_at s 0)) (f is_one)
-    (cond (eqb (byte_at s 0) 0x5_c)
+    (cond (eqb (byte_at s 0) 0x5C)
     (cond (ltb (escape_of (byte_at s 1)) 256) (f is-escaped)
     (cond (eqb (byte_at s 1) 0x75)
     (cond (is_scalar (hex_at s 2)) (f is-unicode)
-    (cond (is_high (hex_at s 2) && (eqb (byte_at s 6) 0x5_c && (eqb (byte_at s 7) 0x75 && is_low (hex_at s 8)))) (f is-pair) (f is_none)))
+    (cond (is_high (hex_at s 2) && (eqb (byte_at s 6) 0x5C && (eqb (byte_at s 7) 0x75 && is_low (hex_at s 8)))) (f is-pair) (f is_none)))
     (f is_none)))
-    (cond (within 0x_c2 0x_df (byte_at s 0) && tail (byte_at s 1)) (f is-two)
+    (cond (within 0xC2 0xDF (byte_at s 0) && tail (byte_at s 1)) (f is-two)
     (cond (first_of_three (byte_at s 0) (byte_at s 1) && tail (byte_at s 2)) (f is-three)
     (cond (first_of_four (byte_at s 0) (byte_at s 1) && (tail (byte_at s 2) && tail (byte_at s 3))) (f is-four)
     (f is_none)))))
@@ -40,28 +40,28 @@ kind_of (unicode h) = is-unicode
 kind_of (pair h) = is-pair
 
 module _ {A : Type 0} (f : Kind → A) where
-  two-kind : (a b : ℕ) (r : List ℕ) → (within 0x_c2 0x_df a && tail b) ≡ true → pick f (a ∷ b ∷ r) ≡ f is-two
+  two-kind : (a b : ℕ) (r : List ℕ) → (within 0xC2 0xDF a && tail b) ≡ true → pick f (a ∷ b ∷ r) ≡ f is-two
   unfolding pick
   two-kind a b r h =
-      let l = within_low 0x_c2 0x_df a (and-true-left (within 0x_c2 0x_df a) (tail b) h) in
-      rw (plain-above a (omega arith), ne_eqb a 0x5_c (λ e. omega arith), h)
+      let l = within_low 0xC2 0xDF a (and-true-left (within 0xC2 0xDF a) (tail b) h) in
+      rw (plain-above a (omega arith), ne_eqb a 0x5C (λ e. omega arith), h)
 
   three-kind : (a b c : ℕ) (r : List ℕ) → (first_of_three a b && tail c) ≡ true → pick f (a ∷ b ∷ c ∷ r) ≡ f is-three
   unfolding pick
   three-kind a b c r h =
       let l = three-first a b (and-true-left (first_of_three a b) (tail c) h) in
-      rw (plain-above a (omega arith), ne_eqb a 0x5_c (λ e. omega arith), outside_high 0x_c2 0x_df a (omega arith), h)
+      rw (plain-above a (omega arith), ne_eqb a 0x5C (λ e. omega arith), outside_high 0xC2 0xDF a (omega arith), h)
 
   four-kind : (a b c d : ℕ) (r : List ℕ) → (first_of_four a b && (tail c && tail d)) ≡ true → pick f (a ∷ b ∷ c ∷ d ∷ r) ≡ f is-four
   unfolding pick
   four-kind a b c d r h =
       let l = four-first a b (and-true-left (first_of_four a b) (tail c && tail d) h) in
-      rw (plain-above a (omega arith), ne_eqb a 0x5_c (λ e. omega arith), outside_high 0x_c2 0x_df a (omega arith), above-three a b l, h)
+      rw (plain-above a (omega arith), ne_eqb a 0x5C (λ e. omega arith), outside_high 0xC2 0xDF a (omega arith), above-three a b l, h)
 
   pair-kind :
       (a b c d e g h i : ℕ) (r : List ℕ) →
       (is_high (hex_four a b c d) && is_low (hex_four e g h i)) ≡ true →
-      pick f (0x5_c ∷ 0x75 ∷ a ∷ b ∷ c ∷ d ∷ 0x5_c ∷ 0x75 ∷ e ∷ g ∷ h ∷ i ∷ r) ≡ f is-pair
+      pick f (0x5C ∷ 0x75 ∷ a ∷ b ∷ c ∷ d ∷ 0x5C ∷ 0x75 ∷ e ∷ g ∷ h ∷ i ∷ r) ≡ f is-pair
   unfolding pick plain within escape_of
   pair-kind a b c d e g h i r k =
       let l = and-true-left (is_high (hex_four a b c d)) (is_low (hex_four e g h i)) k in

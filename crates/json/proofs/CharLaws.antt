@@ -36,15 +36,15 @@ pub len-char : (s : List ℕ) → 0 < char_len s → (x : List ℕ) × Char s x 
 unfolding char_len escape_len pair_len utf8_len
 len-char s =
     by_cond P (plain (byte_at s 0)) (λ e h. found-one s e)
-    (λ n. by_cond P (eqb (byte_at s 0) 0x5_c)
+    (λ n. by_cond P (eqb (byte_at s 0) 0x5C)
     (λ a. by_cond P (ltb (escape_of (byte_at s 1)) 256) (λ e h. found-escaped s a e)
     (λ m. by_cond P (eqb (byte_at s 1) 0x75)
     (λ b. by_cond P (is_scalar (hex_at s 2)) (λ e h. found-unicode s a b e)
-    (λ k. by_cond P (is_high (hex_at s 2) && (eqb (byte_at s 6) 0x5_c && (eqb (byte_at s 7) 0x75 && is_low (hex_at s 8))))
+    (λ k. by_cond P (is_high (hex_at s 2) && (eqb (byte_at s 6) 0x5C && (eqb (byte_at s 7) 0x75 && is_low (hex_at s 8))))
     (λ e h. found-pair s a b e)
     none))
     none))
-    (λ m. by_cond P (within 0x_c2 0x_df (byte_at s 0) && tail (byte_at s 1)) (λ e h. found-two s e)
+    (λ m. by_cond P (within 0xC2 0xDF (byte_at s 0) && tail (byte_at s 1)) (λ e h. found-two s e)
     (λ k. by_cond P (first_of_three (byte_at s 0) (byte_at s 1) && tail (byte_at s 2)) (λ e h. found-three s e)
     (λ l. by_cond P (first_of_four (byte_at s 0) (byte_at s 1) && (tail (byte_at s 2) && tail (byte_at s 3))) (λ e h. found-four s e)
     none))))
@@ -59,9 +59,9 @@ len-char s =
 pub char-front : {s x r : List ℕ} → Char s x r → eqb (byte_at s 0) 0x22 ≡ false
 unfolding plain
 char-front (one {a} h) =
-    not-true (eqb a 0x22) (and-true-left (not (eqb a 0x22)) (not (eqb a 0x5_c)) (and-true-right (within 0x20 0x7_f a) (not (eqb a 0x22) && not (eqb a 0x5_c)) h))
+    not-true (eqb a 0x22) (and-true-left (not (eqb a 0x22)) (not (eqb a 0x5C)) (and-true-right (within 0x20 0x7F a) (not (eqb a 0x22) && not (eqb a 0x5C)) h))
 char-front (two {a} {b} h) =
-    let l = within_low 0x_c2 0x_df a (and-true-left (within 0x_c2 0x_df a) (tail b) h) in ne_eqb a 0x22 (λ e. omega arith)
+    let l = within_low 0xC2 0xDF a (and-true-left (within 0xC2 0xDF a) (tail b) h) in ne_eqb a 0x22 (λ e. omega arith)
 char-front (three {a} {b} {c} h) =
     let l = three-first a b (and-true-left (first_of_three a b) (tail c) h) in ne_eqb a 0x22 (λ e. omega arith)
 char-front (four {a} {b} {c} {d} h) =

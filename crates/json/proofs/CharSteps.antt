@@ -39,7 +39,7 @@ pair_fits : (s : List ℕ) → pair_len s ≤ length s
 unfolding pair_len
 pair_fits s =
     by_cond (λ (n : ℕ). n ≤ length s) _
-    (λ e. low-inside s (and-true-right (eqb (byte_at s 7) 0x75) _ (and-true-right (eqb (byte_at s 6) 0x5_c) _ (and-true-right (is_high (hex_at s 2)) _ e))))
+    (λ e. low-inside s (and-true-right (eqb (byte_at s 7) 0x75) _ (and-true-right (eqb (byte_at s 6) 0x5C) _ (and-true-right (is_high (hex_at s 2)) _ e))))
     (λ e. zero-le)
 
 escape-fits : (s : List ℕ) → escape_len s ≤ length s
@@ -58,7 +58,7 @@ utf8-fits : (s : List ℕ) → utf8_len s ≤ length s
 unfolding utf8_len
 utf8-fits s =
     by_cond (λ (n : ℕ). n ≤ length s) _
-    (λ e. test-inside tail s 1 tail-past (and-true-right (within 0x_c2 0x_df (byte_at s 0)) _ e))
+    (λ e. test-inside tail s 1 tail-past (and-true-right (within 0xC2 0xDF (byte_at s 0)) _ e))
     (λ e. by_cond (λ (n : ℕ). n ≤ length s) _
     (λ e. test-inside tail s 2 tail-past (and-true-right (first_of_three (byte_at s 0) (byte_at s 1)) _ e))
     (λ e. by_cond (λ (n : ℕ). n ≤ length s) _
@@ -73,7 +73,7 @@ unfolding char_len
 char-fits s =
     by_cond (λ (n : ℕ). n ≤ length s) (plain (byte_at s 0))
     (λ e. test-inside plain s 0 plain-past e)
-    (λ e. by_cond (λ (n : ℕ). n ≤ length s) (eqb (byte_at s 0) 0x5_c) (λ e. escape-fits s) (λ e. utf8-fits s))
+    (λ e. by_cond (λ (n : ℕ). n ≤ length s) (eqb (byte_at s 0) 0x5C) (λ e. escape-fits s) (λ e. utf8-fits s))
   where
     plain-past : plain 256 ≡ false
     plain-past = unfold plain within in refl

@@ -27,11 +27,11 @@ or_cases P false b f g e = g e
 
 -- a number's first byte, and a value's
 unfoldable pub starts_number : ℕ → Bool
-starts_number b = eqb b 0x2_d || is_digit b
+starts_number b = eqb b 0x2D || is_digit b
 
 unfoldable pub starts : ℕ → Bool
 starts b =
-    eqb b 0x6_e || (eqb b 0x74 || (eqb b 0x66 || (eqb b 0x22 || (eqb b 0x5_b || (eqb b 0x7_b || starts_number b)))))
+    eqb b 0x6E || (eqb b 0x74 || (eqb b 0x66 || (eqb b 0x22 || (eqb b 0x5B || (eqb b 0x7B || starts_number b)))))
 
 pub number-begins : {s r : List ℕ} → Number s r → starts_number (byte_at s 0) ≡ true
 unfolding starts_number
@@ -40,8 +40,8 @@ number-begins n = number-front n
 number-starts : (b : ℕ) → starts_number b ≡ true → starts b ≡ true
 unfolding starts
 number-starts b h =
-    or_right (eqb b 0x6_e) _ (or_right (eqb b 0x74) _ (or_right (eqb b 0x66) _ (or_right (eqb b 0x22) _
-    (or_right (eqb b 0x5_b) _ (or_right (eqb b 0x7_b) _ h)))))
+    or_right (eqb b 0x6E) _ (or_right (eqb b 0x74) _ (or_right (eqb b 0x66) _ (or_right (eqb b 0x22) _
+    (or_right (eqb b 0x5B) _ (or_right (eqb b 0x7B) _ h)))))
 
 pub val-starts : {s r : List ℕ} {v : Value} → Val s v r → starts (byte_at s 0) ≡ true
 unfolding starts starts_number
@@ -58,8 +58,8 @@ val-starts (an_object w n v m) = refl
 pub starts-low : (b : ℕ) → starts b ≡ true → 0x22 ≤ b
 unfolding starts starts_number is_digit
 starts-low b =
-    is 0x6_e _ (omega arith) (is 0x74 _ (omega arith) (is 0x66 _ (omega arith) (is 0x22 _ (omega arith)
-    (is 0x5_b _ (omega arith) (is 0x7_b _ (omega arith) (is 0x2_d _ (omega arith)
+    is 0x6E _ (omega arith) (is 0x74 _ (omega arith) (is 0x66 _ (omega arith) (is 0x22 _ (omega arith)
+    (is 0x5B _ (omega arith) (is 0x7B _ (omega arith) (is 0x2D _ (omega arith)
     (λ h. let l = within_low 0x30 0x39 b h in omega arith)))))))
   where
     is : (c : ℕ) (t : Bool) → 0x22 ≤ c → (t ≡ true → 0x22 ≤ b) → (eqb b c || t) ≡ true → 0x22 ≤ b
@@ -68,14 +68,14 @@ starts-low b =
 pub ws-low : (b : ℕ) → is_ws b ≡ true → b ≤ 0x20
 unfolding is_ws
 ws-low b =
-    is 0x20 _ (omega arith) (is 0x09 _ (omega arith) (is 0x0_a _ (omega arith) (λ e. let q = eqb-true b 0x0_d e in omega arith)))
+    is 0x20 _ (omega arith) (is 0x09 _ (omega arith) (is 0x0A _ (omega arith) (λ e. let q = eqb-true b 0x0D e in omega arith)))
   where
     is : (c : ℕ) (t : Bool) → c ≤ 0x20 → (t ≡ true → b ≤ 0x20) → (eqb b c || t) ≡ true → b ≤ 0x20
     is c t l f = or_cases (b ≤ 0x20) (eqb b c) t (λ e. let q = eqb-true b c e in omega arith) f
 
 above-ws : (b : ℕ) → 0x21 ≤ b → is_ws b ≡ false
 unfolding is_ws
-above-ws b h = rw (ne_eqb b 0x20 (λ e. omega arith), ne_eqb b 0x09 (λ e. omega arith), ne_eqb b 0x0_a (λ e. omega arith), ne_eqb b 0x0_d (λ e. omega arith))
+above-ws b h = rw (ne_eqb b 0x20 (λ e. omega arith), ne_eqb b 0x09 (λ e. omega arith), ne_eqb b 0x0A (λ e. omega arith), ne_eqb b 0x0D (λ e. omega arith))
 
 -- no value begins with ws
 pub val-ws : {s r : List ℕ} {v : Value} → Val s v r → is_ws (byte_at s 0) ≡ false
@@ -101,7 +101,7 @@ ws-same w z h k = let q = ws-one w z h k in (cc, cc)
 low-ends : (b : ℕ) → b ≤ 0x20 → goes_on b ≡ false
 unfolding goes_on is_digit
 low-ends b h =
-    rw (outside_low 0x30 0x39 b (omega arith), ne_eqb b 0x2_e (λ e. omega arith), ne_eqb b 0x65 (λ e. omega arith), ne_eqb b 0x45 (λ e. omega arith))
+    rw (outside_low 0x30 0x39 b (omega arith), ne_eqb b 0x2E (λ e. omega arith), ne_eqb b 0x65 (λ e. omega arith), ne_eqb b 0x45 (λ e. omega arith))
 
 pub ws-ends : {s r : List ℕ} → Ws s r → goes_on (byte_at r 0) ≡ false → goes_on (byte_at s 0) ≡ false
 ws-ends no_ws h = h

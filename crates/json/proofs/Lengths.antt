@@ -42,21 +42,21 @@ module _ (a b c d : ℕ) where
       (lt-ltb (hex_of a) 16 (rw e at p), lt-ltb (hex_of b) 16 (rw f at q), lt-ltb (hex_of c) 16 (rw g at r), lt-ltb (hex_of d) 16 (rw h at s)))
 
 -- what begins a char of two bytes begins none of three or four
-module _ (a b : ℕ) (h : within 0x_c2 0x_df a ≡ true) where
-  below : a < 0x_e0
-  below = omega (arith, within-high 0x_c2 0x_df a h)
+module _ (a b : ℕ) (h : within 0xC2 0xDF a ≡ true) where
+  below : a < 0xE0
+  below = omega (arith, within-high 0xC2 0xDF a h)
 
   two-not-three : first_of_three a b ≡ false
   unfolding first_of_three
   two-not-three =
       let l = below in
-      rw (ne_eqb a 0x_e0 (omega arith), ne_eqb a 0x_ed (omega arith), outside_low 0x_e1 0x_ef a (omega arith))
+      rw (ne_eqb a 0xE0 (omega arith), ne_eqb a 0xED (omega arith), outside_low 0xE1 0xEF a (omega arith))
 
   two-not-four : first_of_four a b ≡ false
   unfolding first_of_four
   two-not-four =
       let l = below in
-      rw (ne_eqb a 0x_f0 (omega arith), ne_eqb a 0x_f4 (omega arith), outside_low 0x_f1 0x_f3 a (omega arith))
+      rw (ne_eqb a 0xF0 (omega arith), ne_eqb a 0xF4 (omega arith), outside_low 0xF1 0xF3 a (omega arith))
 
 -- at a place of a text
 module _ (t : List ℕ) (n : ℕ) where
@@ -65,7 +65,7 @@ module _ (t : List ℕ) (n : ℕ) where
 
   pub pair-at :
       pair_len (drop n t) ≡
-      cond (is_high (hex_at t (n + 2)) && (eqb (byte_at t (n + 6)) 0x5_c && (eqb (byte_at t (n + 7)) 0x75 && is_low (hex_at t (n + 8))))) 12 0
+      cond (is_high (hex_at t (n + 2)) && (eqb (byte_at t (n + 6)) 0x5C && (eqb (byte_at t (n + 7)) 0x75 && is_low (hex_at t (n + 8))))) 12 0
   unfolding pair_len
   pair-at = rw (hex-drop 2, byte-drop n t 6, byte-drop n t 7, hex-drop 8)
 
@@ -78,13 +78,13 @@ module _ (t : List ℕ) (n : ℕ) where
 
   pub utf8-at :
       utf8_len (drop n t) ≡
-      cond (within 0x_c2 0x_df (byte_at t n) && tail (byte_at t (n + 1))) 2
+      cond (within 0xC2 0xDF (byte_at t n) && tail (byte_at t (n + 1))) 2
       (cond (first_of_three (byte_at t n) (byte_at t (n + 1)) && tail (byte_at t (n + 2))) 3
       (cond (first_of_four (byte_at t n) (byte_at t (n + 1)) && (tail (byte_at t (n + 2)) && tail (byte_at t (n + 3)))) 4 0))
   unfolding utf8_len
   utf8-at = rw (byte-here t n, byte-drop n t 1, byte-drop n t 2, byte-drop n t 3)
 
-  pub utf8-no-tail : within 0x_c2 0x_df (byte_at t n) ≡ true → tail (byte_at t (n + 1)) ≡ false → 0 ≡ utf8_len (drop n t)
+  pub utf8-no-tail : within 0xC2 0xDF (byte_at t n) ≡ true → tail (byte_at t (n + 1)) ≡ false → 0 ≡ utf8_len (drop n t)
   utf8-no-tail h e = rw utf8-at (simp (e, and-false, two-not-three (byte_at t n) (byte_at t (n + 1)) h, two-not-four (byte_at t n) (byte_at t (n + 1)) h))
 
   pub char-plain : plain (byte_at t n) ≡ true → 1 ≡ char_len (drop n t)

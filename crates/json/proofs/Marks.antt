@@ -22,17 +22,17 @@ use Rattle.json.proofs.Tests.{and-true, within_low}
 unfoldable pub marks : List ℕ → Bool → Option (List ℕ)
 marks [] e = none
 marks (b ∷ s) true = marks s false
-marks (b ∷ s) false = cond (eqb b 0x22) (some s) (marks s (eqb b 0x5_c))
+marks (b ∷ s) false = cond (eqb b 0x22) (some s) (marks s (eqb b 0x5C))
 
 abbrev pub marks_rest : List ℕ → Option (List ℕ)
 marks_rest s = marks s false
 
-passed : (b : ℕ) (s : List ℕ) → (b ≡ 0x22 → ⊥) → (b ≡ 0x5_c → ⊥) → marks_rest (b ∷ s) ≡ marks_rest s
+passed : (b : ℕ) (s : List ℕ) → (b ≡ 0x22 → ⊥) → (b ≡ 0x5C → ⊥) → marks_rest (b ∷ s) ≡ marks_rest s
 unfolding marks
-passed b s m n = rw (ne_eqb b 0x22 m, ne_eqb b 0x5_c n)
+passed b s m n = rw (ne_eqb b 0x22 m, ne_eqb b 0x5C n)
 
 -- by a test that refuses both marks
-test-passed : (f : ℕ → Bool) (b : ℕ) (s : List ℕ) → f 0x22 ≡ false → f 0x5_c ≡ false → f b ≡ true → marks_rest (b ∷ s) ≡ marks_rest s
+test-passed : (f : ℕ → Bool) (b : ℕ) (s : List ℕ) → f 0x22 ≡ false → f 0x5C ≡ false → f b ≡ true → marks_rest (b ∷ s) ≡ marks_rest s
 test-passed f b s m n y = passed b s (λ e. ff≢tt (ap f e ∙ m) y) (λ e. ff≢tt (ap f e ∙ n) y)
 
 -- every byte of a UTF-8 char of more than one
@@ -41,7 +41,7 @@ high-passed b s h = passed b s (λ e. omega arith) (λ e. omega arith)
 
 tail-passed : (b : ℕ) (s : List ℕ) → tail b ≡ true → marks_rest (b ∷ s) ≡ marks_rest s
 unfolding tail
-tail-passed b s h = high-passed b s (within_low 0x80 0x_bf b h)
+tail-passed b s h = high-passed b s (within_low 0x80 0xBF b h)
 
 digit-passed : (b : ℕ) (s : List ℕ) → ltb (hex_of b) 16 ≡ true → marks_rest (b ∷ s) ≡ marks_rest s
 unfolding hex_of within
@@ -68,8 +68,8 @@ char-passed : {s x r : List ℕ} → Char s x r → marks_rest s ≡ marks_rest 
 unfolding marks plain within is_scalar is_high is_low
 char-passed (one {a} {r} h) = test-passed plain a r refl refl h
 char-passed (two {a} {b} {r} h) =
-    let p = and-true (within 0x_c2 0x_df a) (tail b) h in
-    high-passed a _ (omega (arith, within_low 0x_c2 0x_df a p.0)) ∙ tail-passed b r p.1
+    let p = and-true (within 0xC2 0xDF a) (tail b) h in
+    high-passed a _ (omega (arith, within_low 0xC2 0xDF a p.0)) ∙ tail-passed b r p.1
 char-passed (three {a} {b} {c} {r} h) =
     let p = and-true (first_of_three a b) (tail c) h in
     high-passed a _ (omega (arith, three-first a b p.0)) ∙ (high-passed b _ (three-second a b p.0) ∙ tail-passed c r p.1)
@@ -104,20 +104,20 @@ marks-found [] r e = rw e
 marks-found (b ∷ s) r e =
     by_cond
     (λ (x : List ℕ). r ≡ x → marks_rest (b ∷ s) ≡ marks_rest r)
-    (eqb b 0x22 || eqb b 0x5_c)
+    (eqb b 0x22 || eqb b 0x5C)
     (λ h k. ap marks_rest (sym k))
     (λ h k. passed b s (eqb-false (or-false-left _ _ h)) (eqb-false (or-false-right (eqb b 0x22) _ h)) ∙ marks-found s r k)
     e
 
 -- what is found is a mark or a backslash
-found-slash : (s r : List ℕ) (b : ℕ) → b ∷ r ≡ to_mark s → (b ≡ 0x22 → ⊥) → b ≡ 0x5_c
+found-slash : (s r : List ℕ) (b : ℕ) → b ∷ r ≡ to_mark s → (b ≡ 0x22 → ⊥) → b ≡ 0x5C
 unfolding to_mark
 found-slash [] r b e m = absurd (let z = ap length e in omega arith)
 found-slash (a ∷ s) r b e m =
     by_cond
-    (λ (x : List ℕ). b ∷ r ≡ x → b ≡ 0x5_c)
-    (eqb a 0x22 || eqb a 0x5_c)
-    (λ h k. let z : b ≡ a = cc in z ∙ eqb-true (sym (ap (λ (x : Bool). x || eqb a 0x5_c) (ne_eqb a 0x22 (λ q. m (z ∙ q)))) ∙ h))
+    (λ (x : List ℕ). b ∷ r ≡ x → b ≡ 0x5C)
+    (eqb a 0x22 || eqb a 0x5C)
+    (λ h k. let z : b ≡ a = cc in z ∙ eqb-true (sym (ap (λ (x : Bool). x || eqb a 0x5C) (ne_eqb a 0x22 (λ q. m (z ∙ q)))) ∙ h))
     (λ h k. found-slash s r b k m)
     e
 
@@ -138,13 +138,13 @@ module _ (t : List ℕ) (i : ℕ) (h : i < length t) where
   unfolding to_mark
   to-mark e = rw (here, e)
 
-  pub to-slash : get_or t i 0 ≡ 0x5_c → to_mark (drop i t) ≡ drop i t
+  pub to-slash : get_or t i 0 ≡ 0x5C → to_mark (drop i t) ≡ drop i t
   unfolding to_mark
   to-slash e = rw (here, e)
 
-  pub to-on : (get_or t i 0 ≡ 0x22 → ⊥) → (get_or t i 0 ≡ 0x5_c → ⊥) → to_mark (drop i t) ≡ to_mark (drop (i + 1) t)
+  pub to-on : (get_or t i 0 ≡ 0x22 → ⊥) → (get_or t i 0 ≡ 0x5C → ⊥) → to_mark (drop i t) ≡ to_mark (drop (i + 1) t)
   unfolding to_mark
-  to-on m n = rw (here, ne_eqb (get_or t i 0) 0x22 m, ne_eqb (get_or t i 0) 0x5_c n)
+  to-on m n = rw (here, ne_eqb (get_or t i 0) 0x22 m, ne_eqb (get_or t i 0) 0x5C n)
 
 -- where the next mark or backslash of s stands
 module _ (t s : List ℕ) (i : ℕ) (f : drop i t ≡ to_mark s) (h : i < length t) where

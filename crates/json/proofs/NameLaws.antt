@@ -17,16 +17,16 @@ use Rattle.json.proofs.Tests.{same, no-some}
 pub name-rest : {s x r : List ℕ} → Name s x r → is_ws (byte_at r 0) ≡ false → name_rest s ≡ some r
 unfolding name_rest colon_rest is_ws
 name-rest {r = r} (name {t = t} {u = u} c w v) h =
-    let colon : skip_ws t ≡ 0x3_a ∷ u = ws-skips w ∙ skip-front (0x3_a ∷ u) refl in
+    let colon : skip_ws t ≡ 0x3A ∷ u = ws-skips w ∙ skip-front (0x3A ∷ u) refl in
     rw (chars_rest_lem c, colon) (ap some (ws-skips v ∙ skip-front r h))
 
-rest-colon : (t u r : List ℕ) → skip_ws t ≡ u → colon_rest u ≡ some r → (v : List ℕ) × Ws t (0x3_a ∷ v) × Ws v r
+rest-colon : (t u r : List ℕ) → skip_ws t ≡ u → colon_rest u ≡ some r → (v : List ℕ) × Ws t (0x3A ∷ v) × Ws v r
 unfolding colon_rest
 rest-colon t [] r e k = no-some k
-rest-colon t (a ∷ u) r e k = go (eqb a 0x3_a) refl k
+rest-colon t (a ∷ u) r e k = go (eqb a 0x3A) refl k
   where
-    go : (x : Bool) → eqb a 0x3_a ≡ x → cond x (some (skip_ws u)) none ≡ some r → (v : List ℕ) × Ws t (0x3_a ∷ v) × Ws v r
-    go true f l = (u, rw (e, eqb-true a 0x3_a f) at (skips-ws t), rw (same l) at (skips-ws u))
+    go : (x : Bool) → eqb a 0x3A ≡ x → cond x (some (skip_ws u)) none ≡ some r → (v : List ℕ) × Ws t (0x3A ∷ v) × Ws v r
+    go true f l = (u, rw (e, eqb-true a 0x3A f) at (skips-ws t), rw (same l) at (skips-ws u))
     go false f l = no-some l
 
 pub rest-name : (s r : List ℕ) → name_rest s ≡ some r → (x : List ℕ) × Name s x r

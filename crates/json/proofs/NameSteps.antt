@@ -27,7 +27,7 @@ module _ (t : List ℕ) (i b : ℕ) (e : b ≡ byte_at t i) where
   front : byte_at (drop i t) 0 ≡ b
   front = front-byte t i b e
 
-  pub literal-null : b ≡ 0x6_e → literal_rest (drop i t) ≡ word_rest (0x75 ∷ 0x6_c ∷ 0x6_c ∷ []) (drop (i + 1) t)
+  pub literal-null : b ≡ 0x6E → literal_rest (drop i t) ≡ word_rest (0x75 ∷ 0x6C ∷ 0x6C ∷ []) (drop (i + 1) t)
   unfolding literal_rest
   literal-null h = rw (front, h, behind-here t i)
 
@@ -35,21 +35,21 @@ module _ (t : List ℕ) (i b : ℕ) (e : b ≡ byte_at t i) where
   unfolding literal_rest
   literal-true h = rw (front, h, behind-here t i)
 
-  pub literal-false : b ≡ 0x66 → literal_rest (drop i t) ≡ word_rest (0x61 ∷ 0x6_c ∷ 0x73 ∷ 0x65 ∷ []) (drop (i + 1) t)
+  pub literal-false : b ≡ 0x66 → literal_rest (drop i t) ≡ word_rest (0x61 ∷ 0x6C ∷ 0x73 ∷ 0x65 ∷ []) (drop (i + 1) t)
   unfolding literal_rest
   literal-false h = rw (front, h, behind-here t i)
 
-  pub literal-none : (b ≡ 0x6_e → ⊥) → (b ≡ 0x74 → ⊥) → (b ≡ 0x66 → ⊥) → literal_rest (drop i t) ≡ none
+  pub literal-none : (b ≡ 0x6E → ⊥) → (b ≡ 0x74 → ⊥) → (b ≡ 0x66 → ⊥) → literal_rest (drop i t) ≡ none
   unfolding literal_rest
-  literal-none h k l = rw (front, ne_eqb b 0x6_e h, ne_eqb b 0x74 k, ne_eqb b 0x66 l)
+  literal-none h k l = rw (front, ne_eqb b 0x6E h, ne_eqb b 0x74 k, ne_eqb b 0x66 l)
 
-  pub colon-yes : b ≡ 0x3_a → colon_rest (drop i t) ≡ some (skip_ws (drop (i + 1) t))
+  pub colon-yes : b ≡ 0x3A → colon_rest (drop i t) ≡ some (skip_ws (drop (i + 1) t))
   unfolding colon_rest
   colon-yes h = rw (front, h, behind-here t i)
 
-  pub colon-no : (b ≡ 0x3_a → ⊥) → colon_rest (drop i t) ≡ none
+  pub colon-no : (b ≡ 0x3A → ⊥) → colon_rest (drop i t) ≡ none
   unfolding colon_rest
-  colon-no h = rw (front, ne_eqb b 0x3_a h)
+  colon-no h = rw (front, ne_eqb b 0x3A h)
 
   pub name-no-mark : (b ≡ 0x22 → ⊥) → name_rest (drop i t) ≡ none
   unfolding name_rest

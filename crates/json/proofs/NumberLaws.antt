@@ -31,7 +31,7 @@ use Rattle.json.proofs.Tests.{within_low, within-high, inside, digit_low, not_di
 
 pub record Stops (b : ℕ) : Type 0 where
   pub digit : is_digit b ≡ false
-  pub point : eqb b 0x2_e ≡ false
+  pub point : eqb b 0x2E ≡ false
   pub small : eqb b 0x65 ≡ false
   pub large : eqb b 0x45 ≡ false
 
@@ -39,11 +39,11 @@ pub stops : (b : ℕ) → goes_on b ≡ false → Stops b
 unfolding goes_on
 stops b h =
     let more = eqb b 0x65 || eqb b 0x45 in
-    let rest : (eqb b 0x2_e || more) ≡ false = or-false-right (is_digit b) (eqb b 0x2_e || more) h in
-    let last : more ≡ false = or-false-right (eqb b 0x2_e) more rest in
+    let rest : (eqb b 0x2E || more) ≡ false = or-false-right (is_digit b) (eqb b 0x2E || more) h in
+    let last : more ≡ false = or-false-right (eqb b 0x2E) more rest in
     record {
-      digit = or-false-left (is_digit b) (eqb b 0x2_e || more) h;
-      point = or-false-left (eqb b 0x2_e) more rest;
+      digit = or-false-left (is_digit b) (eqb b 0x2E || more) h;
+      point = or-false-left (eqb b 0x2E) more rest;
       small = or-false-left (eqb b 0x65) (eqb b 0x45) last;
       large = or-false-right (eqb b 0x65) (eqb b 0x45) last;
     }
@@ -81,16 +81,16 @@ int-front (from_one {b} h d) = digit-of b (within_low 0x31 0x39 b h) (within-hig
 minus-skip : {s a r : List ℕ} → Minus s a → Int a r → skip_minus s ≡ a
 unfolding skip_minus
 minus-skip minus i = refl
-minus-skip {a = a} no_minus i = rw (ne_eqb (byte_at a 0) 0x2_d (λ x. omega (arith, digit_low (byte_at a 0) (int-front i))))
+minus-skip {a = a} no_minus i = rw (ne_eqb (byte_at a 0) 0x2D (λ x. omega (arith, digit_low (byte_at a 0) (int-front i))))
 
 sign-skip : {s t r : List ℕ} → Sign s t → Digits1 t r → skip_sign s ≡ t
 unfolding skip_sign
 sign-skip negative d = refl
 sign-skip positive d = refl
 sign-skip no_sign (digits {b} h d) =
-    rw (ne_eqb b 0x2_d (λ x. omega (arith, digit_low b h)), ne_eqb b 0x2_b (λ x. omega (arith, digit_low b h)))
+    rw (ne_eqb b 0x2D (λ x. omega (arith, digit_low b h)), ne_eqb b 0x2B (λ x. omega (arith, digit_low b h)))
 
-frac-rest : {s r : List ℕ} → Frac s r → is_digit (byte_at r 0) ≡ false → eqb (byte_at r 0) 0x2_e ≡ false → frac_rest s ≡ some r
+frac-rest : {s r : List ℕ} → Frac s r → is_digit (byte_at r 0) ≡ false → eqb (byte_at r 0) 0x2E ≡ false → frac_rest s ≡ some r
 unfolding frac_rest
 frac-rest no_frac d p = rw p
 frac-rest (frac x) d p = digits1-rest x d
@@ -101,14 +101,14 @@ exp-rest no_exp e = rw (e.small, e.large)
 exp-rest (exp h s d) e = rw (h, sign-skip s d) (digits1-rest d e.digit)
 
 -- in front of an exponent, or of what stops a number: no digit and no point
-exp-front : {s r : List ℕ} → Exp s r → Stops (byte_at r 0) → (is_digit (byte_at s 0) ≡ false) × (eqb (byte_at s 0) 0x2_e ≡ false)
+exp-front : {s r : List ℕ} → Exp s r → Stops (byte_at r 0) → (is_digit (byte_at s 0) ≡ false) × (eqb (byte_at s 0) 0x2E ≡ false)
 exp-front no_exp e = (e.digit, e.point)
 exp-front (exp {b} h s d) e = go (eqb b 0x65) refl h
   where
-    at : (n : ℕ) → b ≡ n → 0x45 ≤ n → (is_digit b ≡ false) × (eqb b 0x2_e ≡ false)
-    at n x l = (not_digit b (omega arith), ne_eqb b 0x2_e (λ y. omega arith))
+    at : (n : ℕ) → b ≡ n → 0x45 ≤ n → (is_digit b ≡ false) × (eqb b 0x2E ≡ false)
+    at n x l = (not_digit b (omega arith), ne_eqb b 0x2E (λ y. omega arith))
 
-    go : (x : Bool) → eqb b 0x65 ≡ x → (x || eqb b 0x45) ≡ true → (is_digit b ≡ false) × (eqb b 0x2_e ≡ false)
+    go : (x : Bool) → eqb b 0x65 ≡ x → (x || eqb b 0x45) ≡ true → (is_digit b ≡ false) × (eqb b 0x2E ≡ false)
     go true x y = at 0x65 (eqb-true b 0x65 x) (omega arith)
     go false x y = at 0x45 (eqb-true b 0x45 y) (omega arith)
 
@@ -124,9 +124,9 @@ number-rest {r = r} (number m i f e) h =
     let q = exp-front e p in
     rw (minus-skip m i, int-rest i (frac-front f q.0), frac-rest f q.0 q.1) (exp-rest e p)
 
-pub number-front : {s r : List ℕ} → Number s r → (eqb (byte_at s 0) 0x2_d || is_digit (byte_at s 0)) ≡ true
+pub number-front : {s r : List ℕ} → Number s r → (eqb (byte_at s 0) 0x2D || is_digit (byte_at s 0)) ≡ true
 number-front (number minus i f e) = refl
-number-front (number {s} no_minus i f e) = rw (int-front i) (or-true (eqb (byte_at s 0) 0x2_d))
+number-front (number {s} no_minus i f e) = rw (int-front i) (or-true (eqb (byte_at s 0) 0x2D))
 
 -- what is read is in the grammar
 
@@ -166,32 +166,32 @@ rest-int (b ∷ s) r h = go (eqb b 0x30) refl h
 skip-minus : (s : List ℕ) → Minus s (skip_minus s)
 unfolding skip_minus
 skip-minus [] = no_minus
-skip-minus (b ∷ s) = go (eqb b 0x2_d) refl
+skip-minus (b ∷ s) = go (eqb b 0x2D) refl
   where
-    go : (x : Bool) → eqb b 0x2_d ≡ x → Minus (b ∷ s) (cond (eqb b 0x2_d) s (b ∷ s))
-    go true e = rw (e, eqb-true b 0x2_d e) minus
+    go : (x : Bool) → eqb b 0x2D ≡ x → Minus (b ∷ s) (cond (eqb b 0x2D) s (b ∷ s))
+    go true e = rw (e, eqb-true b 0x2D e) minus
     go false e = rw e no_minus
 
 skip-sign : (s : List ℕ) → Sign s (skip_sign s)
 unfolding skip_sign
 skip-sign [] = no_sign
-skip-sign (b ∷ s) = go (eqb b 0x2_d) refl
+skip-sign (b ∷ s) = go (eqb b 0x2D) refl
   where
-    plus : (x : Bool) → eqb b 0x2_b ≡ x → Sign (b ∷ s) (cond (eqb b 0x2_b) s (b ∷ s))
-    plus true e = rw (e, eqb-true b 0x2_b e) positive
+    plus : (x : Bool) → eqb b 0x2B ≡ x → Sign (b ∷ s) (cond (eqb b 0x2B) s (b ∷ s))
+    plus true e = rw (e, eqb-true b 0x2B e) positive
     plus false e = rw e no_sign
 
-    go : (x : Bool) → eqb b 0x2_d ≡ x → Sign (b ∷ s) (cond (eqb b 0x2_d || eqb b 0x2_b) s (b ∷ s))
-    go true e = rw (e, eqb-true b 0x2_d e) negative
-    go false e = rw e (plus (eqb b 0x2_b) refl)
+    go : (x : Bool) → eqb b 0x2D ≡ x → Sign (b ∷ s) (cond (eqb b 0x2D || eqb b 0x2B) s (b ∷ s))
+    go true e = rw (e, eqb-true b 0x2D e) negative
+    go false e = rw e (plus (eqb b 0x2B) refl)
 
 rest-frac : (s r : List ℕ) → frac_rest s ≡ some r → Frac s r
 unfolding frac_rest
 rest-frac [] r h = rw (← (same h)) no_frac
-rest-frac (b ∷ s) r h = go (eqb b 0x2_e) refl h
+rest-frac (b ∷ s) r h = go (eqb b 0x2E) refl h
   where
-    go : (x : Bool) → eqb b 0x2_e ≡ x → cond x (digits1_rest s) (some (b ∷ s)) ≡ some r → Frac (b ∷ s) r
-    go true e k = rw (eqb-true b 0x2_e e) (frac (rest-digits1 s r k))
+    go : (x : Bool) → eqb b 0x2E ≡ x → cond x (digits1_rest s) (some (b ∷ s)) ≡ some r → Frac (b ∷ s) r
+    go true e k = rw (eqb-true b 0x2E e) (frac (rest-digits1 s r k))
     go false e k = rw (same k) no_frac
 
 rest-exp : (s r : List ℕ) → exp_rest s ≡ some r → Exp s r
@@ -241,7 +241,7 @@ read-digits1 (digits {b} {s} h d) = then (one b s) (read-digits d)
 
 read-minus : {s r : List ℕ} → Minus s r → Read s r
 read-minus {s} no_minus = nothing s
-read-minus {r = r} minus = one 0x2_d r
+read-minus {r = r} minus = one 0x2D r
 
 read_int : {s r : List ℕ} → Int s r → Read s r
 read_int {r = r} zero = one 0x30 r
@@ -249,12 +249,12 @@ read_int (from_one {b} {s} h d) = then (one b s) (read-digits d)
 
 read-frac : {s r : List ℕ} → Frac s r → Read s r
 read-frac {s} no_frac = nothing s
-read-frac (frac {s} d) = then (one 0x2_e s) (read-digits1 d)
+read-frac (frac {s} d) = then (one 0x2E s) (read-digits1 d)
 
 read-sign : {s r : List ℕ} → Sign s r → Read s r
 read-sign {s} no_sign = nothing s
-read-sign {r = r} negative = one 0x2_d r
-read-sign {r = r} positive = one 0x2_b r
+read-sign {r = r} negative = one 0x2D r
+read-sign {r = r} positive = one 0x2B r
 
 read-exp : {s r : List ℕ} → Exp s r → Read s r
 read-exp {s} no_exp = nothing s

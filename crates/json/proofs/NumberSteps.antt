@@ -16,25 +16,25 @@ module _ (t : List ℕ) (i b : ℕ) (e : b ≡ byte_at t i) where
   front : byte_at (drop i t) 0 ≡ b
   front = front-byte t i b e
 
-  pub minus-yes : b ≡ 0x2_d → drop (i + 1) t ≡ skip_minus (drop i t)
+  pub minus-yes : b ≡ 0x2D → drop (i + 1) t ≡ skip_minus (drop i t)
   unfolding skip_minus
   minus-yes h = rw (front, h, behind-here t i)
 
-  pub minus-no : (b ≡ 0x2_d → ⊥) → drop i t ≡ skip_minus (drop i t)
+  pub minus-no : (b ≡ 0x2D → ⊥) → drop i t ≡ skip_minus (drop i t)
   unfolding skip_minus
-  minus-no h = rw (front, ne_eqb b 0x2_d h)
+  minus-no h = rw (front, ne_eqb b 0x2D h)
 
-  pub sign-minus : b ≡ 0x2_d → drop (i + 1) t ≡ skip_sign (drop i t)
+  pub sign-minus : b ≡ 0x2D → drop (i + 1) t ≡ skip_sign (drop i t)
   unfolding skip_sign
   sign-minus h = rw (front, h, behind-here t i)
 
-  pub sign-plus : b ≡ 0x2_b → drop (i + 1) t ≡ skip_sign (drop i t)
+  pub sign-plus : b ≡ 0x2B → drop (i + 1) t ≡ skip_sign (drop i t)
   unfolding skip_sign
   sign-plus h = rw (front, h, behind-here t i)
 
-  pub sign-no : (b ≡ 0x2_d → ⊥) → (b ≡ 0x2_b → ⊥) → drop i t ≡ skip_sign (drop i t)
+  pub sign-no : (b ≡ 0x2D → ⊥) → (b ≡ 0x2B → ⊥) → drop i t ≡ skip_sign (drop i t)
   unfolding skip_sign
-  sign-no h k = rw (front, ne_eqb b 0x2_d h, ne_eqb b 0x2_b k)
+  sign-no h k = rw (front, ne_eqb b 0x2D h, ne_eqb b 0x2B k)
 
   pub digits1-yes : is_digit b ≡ true → digits1_rest (drop i t) ≡ some (skip_digits (drop (i + 1) t))
   unfolding digits1_rest
@@ -56,13 +56,13 @@ module _ (t : List ℕ) (i b : ℕ) (e : b ≡ byte_at t i) where
   unfolding int_rest
   int-none h k = rw (front, ne_eqb b 0x30 h, k)
 
-  pub frac-yes : b ≡ 0x2_e → frac_rest (drop i t) ≡ digits1_rest (drop (i + 1) t)
+  pub frac-yes : b ≡ 0x2E → frac_rest (drop i t) ≡ digits1_rest (drop (i + 1) t)
   unfolding frac_rest
   frac-yes h = rw (front, h, behind-here t i)
 
-  pub frac-no : (b ≡ 0x2_e → ⊥) → frac_rest (drop i t) ≡ some (drop i t)
+  pub frac-no : (b ≡ 0x2E → ⊥) → frac_rest (drop i t) ≡ some (drop i t)
   unfolding frac_rest
-  frac-no h = rw (front, ne_eqb b 0x2_e h)
+  frac-no h = rw (front, ne_eqb b 0x2E h)
 
   pub exp-small : b ≡ 0x65 → exp_rest (drop i t) ≡ digits1_rest (skip_sign (drop (i + 1) t))
   unfolding exp_rest

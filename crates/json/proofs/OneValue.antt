@@ -73,20 +73,20 @@ members-at-one {t} {u} n h f g _ q (at-member {t = t'} {u = u'} {v} {ms} o d m) 
 
 array-one :
     {s t u r : List ℕ} {v : Value} {vs : Items} →
-    Ws s t → Val t v u → OnlyVal t v u → OnlyItems u vs r → OnlyVal (0x5_b ∷ s) (array (item v vs)) r
+    Ws s t → Val t v u → OnlyVal t v u → OnlyItems u vs r → OnlyVal (0x5B ∷ s) (array (item v vs)) r
 unfolding starts starts_number is_digit within
 array-one {t} z v f g w q d k =
-    let n = ne_eqb (byte_at t 0) 0x5_d (λ e. no-val v (ap starts e)) in
+    let n = ne_eqb (byte_at t 0) 0x5D (λ e. no-val v (ap starts e)) in
     let b = array-items (val-array d refl) z (val-ws v) n in
     let c = items-at-one f g b.0 q b.2 in
     (ap array c.0 ∙ sym b.1, c.1)
 
 object-one :
     {s t x u o r : List ℕ} {v : Value} {ms : Members} →
-    Ws s t → Name t x u → Val u v o → OnlyVal u v o → OnlyMembers o ms r → OnlyVal (0x7_b ∷ s) (object (member x v ms)) r
+    Ws s t → Name t x u → Val u v o → OnlyVal u v o → OnlyMembers o ms r → OnlyVal (0x7B ∷ s) (object (member x v ms)) r
 object-one {t} z n v f g w q d k =
     let h = name-mark n in
-    let o = ne_eqb (byte_at t 0) 0x7_d (λ e. omega arith) in
+    let o = ne_eqb (byte_at t 0) 0x7D (λ e. omega arith) in
     let b = object-members (val-object d refl) z (name-ws n) o in
     let c = members-at-one n (val-ws v) f g b.0 q b.2 in
     (ap object c.0 ∙ sym b.1, c.1)

@@ -7,41 +7,41 @@ within low high b = leb low b && leb b high
 
 -- one of %x20 / %x09 / %x0_a / %x0_d
 unfoldable pub is_ws : ℕ → Bool
-is_ws b = eqb b 0x20 || (eqb b 0x09 || (eqb b 0x0_a || eqb b 0x0_d))
+is_ws b = eqb b 0x20 || (eqb b 0x09 || (eqb b 0x0A || eqb b 0x0D))
 
 unfoldable pub is_digit : ℕ → Bool
 is_digit b = within 0x30 0x39 b
 
 -- unescaped and of one byte: %x20-21 / %x23-5B / %x5_d-7F
 unfoldable pub plain : ℕ → Bool
-plain b = within 0x20 0x7_f b && (not (eqb b 0x22) && not (eqb b 0x5_c))
+plain b = within 0x20 0x7F b && (not (eqb b 0x22) && not (eqb b 0x5C))
 
 -- UTF8-tail = %x80-BF
 unfoldable pub tail : ℕ → Bool
-tail b = within 0x80 0x_bf b
+tail b = within 0x80 0xBF b
 
 -- the first two of three bytes: %x_e0 %x_a0-BF / %x_e1-EC UTF8-tail / %x_ed %x80-9F / %x_ee-EF UTF8-tail
 unfoldable pub first_of_three : ℕ → ℕ → Bool
 first_of_three a b =
-    cond (eqb a 0x_e0) (within 0x_a0 0x_bf b)
-    (cond (eqb a 0x_ed) (within 0x80 0x9_f b)
-    (within 0x_e1 0x_ef a && tail b))
+    cond (eqb a 0xE0) (within 0xA0 0xBF b)
+    (cond (eqb a 0xED) (within 0x80 0x9F b)
+    (within 0xE1 0xEF a && tail b))
 
 -- the first two of four bytes: %x_f0 %x90-BF / %x_f1-F3 UTF8-tail / %x_f4 %x80-8F
 unfoldable pub first_of_four : ℕ → ℕ → Bool
 first_of_four a b =
-    cond (eqb a 0x_f0) (within 0x90 0x_bf b)
-    (cond (eqb a 0x_f4) (within 0x80 0x8_f b)
-    (within 0x_f1 0x_f3 a && tail b))
+    cond (eqb a 0xF0) (within 0x90 0xBF b)
+    (cond (eqb a 0xF4) (within 0x80 0x8F b)
+    (within 0xF1 0xF3 a && tail b))
 
 -- what stands for the byte behind a backslash: ", \ and / for themselves, b, f, n, r, t; 256 where none does
 unfoldable pub escape_of : ℕ → ℕ
 escape_of b =
-    cond (eqb b 0x22 || (eqb b 0x5_c || eqb b 0x2_f)) b
+    cond (eqb b 0x22 || (eqb b 0x5C || eqb b 0x2F)) b
     (cond (eqb b 0x62) 0x08
-    (cond (eqb b 0x66) 0x0_c
-    (cond (eqb b 0x6_e) 0x0_a
-    (cond (eqb b 0x72) 0x0_d
+    (cond (eqb b 0x66) 0x0C
+    (cond (eqb b 0x6E) 0x0A
+    (cond (eqb b 0x72) 0x0D
     (cond (eqb b 0x74) 0x09
     256)))))
 
@@ -62,21 +62,21 @@ hex_four a b c d =
 
 -- a code point of four digits that is no surrogate, and the two halves of a pair
 unfoldable pub is_scalar : ℕ → Bool
-is_scalar n = ltb n 0x_d800 || within 0x_e000 0x_ffff n
+is_scalar n = ltb n 0xD800 || within 0xE000 0xFFFF n
 
 unfoldable pub is_high : ℕ → Bool
-is_high n = within 0x_d800 0x_dbff n
+is_high n = within 0xD800 0xDBFF n
 
 unfoldable pub is_low : ℕ → Bool
-is_low n = within 0x_dc00 0x_dfff n
+is_low n = within 0xDC00 0xDFFF n
 
 unfoldable pub joined : (high low : ℕ) → ℕ
-joined high low = 0x10000 + (high - 0x_d800) * 0x400 + (low - 0x_dc00)
+joined high low = 0x10000 + (high - 0xD800) * 0x400 + (low - 0xDC00)
 
 -- the UTF-8 bytes of a code point
 unfoldable pub utf8 : ℕ → List ℕ
 utf8 n =
     cond (ltb n 0x80) (n ∷ [])
-    (cond (ltb n 0x800) ((0x_c0 + n / 64) ∷ (0x80 + n % 64) ∷ [])
-    (cond (ltb n 0x10000) ((0x_e0 + n / 4096) ∷ (0x80 + n / 64 % 64) ∷ (0x80 + n % 64) ∷ [])
-    ((0x_f0 + n / 262144) ∷ (0x80 + n / 4096 % 64) ∷ (0x80 + n / 64 % 64) ∷ (0x80 + n % 64) ∷ [])))
+    (cond (ltb n 0x800) ((0xC0 + n / 64) ∷ (0x80 + n % 64) ∷ [])
+    (cond (ltb n 0x10000) ((0xE0 + n / 4096) ∷ (0x80 + n / 64 % 64) ∷ (0x80 + n % 64) ∷ [])
+    ((0xF0 + n / 262144) ∷ (0x80 + n / 4096 % 64) ∷ (0x80 + n / 64 % 64) ∷ (0x80 + n % 64) ∷ [])))

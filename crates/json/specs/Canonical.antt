@@ -25,8 +25,8 @@ unfoldable mutual
   -- "Null is byte 0, a bool 1 and its byte, a number 2, its text and FF, a string 3, its text and FF."
   canonical null = 0 ∷ []
   canonical (boolean b) = 1 ∷ byte_of b ∷ []
-  canonical (number x) = 2 ∷ (x ++ 0x_ff ∷ [])
-  canonical (string x) = 3 ∷ (x ++ 0x_ff ∷ [])
+  canonical (number x) = 2 ∷ (x ++ 0xFF ∷ [])
+  canonical (string x) = 3 ∷ (x ++ 0xFF ∷ [])
   -- "An array is 4, its length as eight little-endian bytes, its items."
   canonical (array vs) = 4 ∷ (little_endian 8 (items vs) ++ canonical_items vs)
   -- "An object is 5, its length, then for each key in byte order its text, FF, the item."
@@ -38,4 +38,4 @@ unfoldable mutual
 
   pub canonical_members : Members → List ℕ
   canonical_members no_members = []
-  canonical_members (member x v ms) = x ++ 0x_ff ∷ (canonical v ++ canonical_members ms)
+  canonical_members (member x v ms) = x ++ 0xFF ∷ (canonical v ++ canonical_members ms)

@@ -14,7 +14,7 @@ pub data Digits1 : List ℕ → List ℕ → Type 0 where
 -- [ minus ]
 pub data Minus : List ℕ → List ℕ → Type 0 where
   no_minus : {r : List ℕ} → Minus r r
-  minus : {r : List ℕ} → Minus (0x2_d ∷ r) r
+  minus : {r : List ℕ} → Minus (0x2D ∷ r) r
 
 -- int = zero / ( digit1-9 *DIGIT )
 pub data Int : List ℕ → List ℕ → Type 0 where
@@ -24,13 +24,13 @@ pub data Int : List ℕ → List ℕ → Type 0 where
 -- [ frac ], frac = decimal-point 1*DIGIT
 pub data Frac : List ℕ → List ℕ → Type 0 where
   no_frac : {r : List ℕ} → Frac r r
-  frac : {s r : List ℕ} → Digits1 s r → Frac (0x2_e ∷ s) r
+  frac : {s r : List ℕ} → Digits1 s r → Frac (0x2E ∷ s) r
 
 -- [ minus / plus ]
 pub data Sign : List ℕ → List ℕ → Type 0 where
   no_sign : {r : List ℕ} → Sign r r
-  negative : {r : List ℕ} → Sign (0x2_d ∷ r) r
-  positive : {r : List ℕ} → Sign (0x2_b ∷ r) r
+  negative : {r : List ℕ} → Sign (0x2D ∷ r) r
+  positive : {r : List ℕ} → Sign (0x2B ∷ r) r
 
 -- [ exp ], exp = e [ minus / plus ] 1*DIGIT, e = %x65 / %x45
 pub data Exp : List ℕ → List ℕ → Type 0 where

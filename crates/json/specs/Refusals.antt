@@ -22,7 +22,7 @@ decimal n (b ∷ s) = decimal (n * 10 + (b - 0x30)) s
 unfoldable pub allowed : List ℕ → Bool
 allowed [] = false
 allowed (b ∷ s) =
-    cond (eqb b 0x2_d)
+    cond (eqb b 0x2D)
     (all_digits s && within 1 (2 ^ 63) (decimal 0 s))
     (all_digits (b ∷ s) && ltb (decimal 0 (b ∷ s)) (2 ^ 64))
 

@@ -42,7 +42,7 @@ hex_at s i = hex_four (byte_at s i) (byte_at s (i + 1)) (byte_at s (i + 2)) (byt
 -- how many bytes the char takes that s begins with; 0 where it begins with none
 unfoldable pub pair_len : List ℕ → ℕ
 pair_len s =
-    cond (is_high (hex_at s 2) && (eqb (byte_at s 6) 0x5_c && (eqb (byte_at s 7) 0x75 && is_low (hex_at s 8)))) 12 0
+    cond (is_high (hex_at s 2) && (eqb (byte_at s 6) 0x5C && (eqb (byte_at s 7) 0x75 && is_low (hex_at s 8)))) 12 0
 
 unfoldable pub escape_len : List ℕ → ℕ
 escape_len s =
@@ -52,13 +52,13 @@ escape_len s =
 
 unfoldable pub utf8_len : List ℕ → ℕ
 utf8_len s =
-    cond (within 0x_c2 0x_df (byte_at s 0) && tail (byte_at s 1)) 2
+    cond (within 0xC2 0xDF (byte_at s 0) && tail (byte_at s 1)) 2
     (cond (first_of_three (byte_at s 0) (byte_at s 1) && tail (byte_at s 2)) 3
     (cond (first_of_four (byte_at s 0) (byte_at s 1) && (tail (byte_at s 2) && tail (byte_at s 3))) 4
     0))
 
 abbrev pub special_len : List ℕ → ℕ
-special_len s = cond (eqb (byte_at s 0) 0x5_c) (escape_len s) (utf8_len s)
+special_len s = cond (eqb (byte_at s 0) 0x5C) (escape_len s) (utf8_len s)
 
 unfoldable pub char_len : List ℕ → ℕ
 char_len s = cond (plain (byte_at s 0)) 1 (special_len s)
@@ -75,29 +75,29 @@ chars_rest s = chars_from (length s) s
 -- from the first mark or backslash on
 unfoldable pub to_mark : List ℕ → List ℕ
 to_mark [] = []
-to_mark (b ∷ s) = cond (eqb b 0x22 || eqb b 0x5_c) (b ∷ s) (to_mark s)
+to_mark (b ∷ s) = cond (eqb b 0x22 || eqb b 0x5C) (b ∷ s) (to_mark s)
 
 -- in front of the first FF
 unfoldable pub up_to_ff : List ℕ → List ℕ
 up_to_ff [] = []
-up_to_ff (b ∷ s) = cond (eqb b 0x_ff) [] (b ∷ up_to_ff s)
+up_to_ff (b ∷ s) = cond (eqb b 0xFF) [] (b ∷ up_to_ff s)
 
 -- numbers: at the longest
 unfoldable pub digits1_rest : List ℕ → Option (List ℕ)
 digits1_rest s = cond (is_digit (byte_at s 0)) (some (skip_digits (drop 1 s))) none
 
 unfoldable pub skip_minus : List ℕ → List ℕ
-skip_minus s = cond (eqb (byte_at s 0) 0x2_d) (drop 1 s) s
+skip_minus s = cond (eqb (byte_at s 0) 0x2D) (drop 1 s) s
 
 unfoldable pub skip_sign : List ℕ → List ℕ
-skip_sign s = cond (eqb (byte_at s 0) 0x2_d || eqb (byte_at s 0) 0x2_b) (drop 1 s) s
+skip_sign s = cond (eqb (byte_at s 0) 0x2D || eqb (byte_at s 0) 0x2B) (drop 1 s) s
 
 unfoldable pub int_rest : List ℕ → Option (List ℕ)
 int_rest s =
     cond (eqb (byte_at s 0) 0x30) (some (drop 1 s)) (cond (within 0x31 0x39 (byte_at s 0)) (some (skip_digits (drop 1 s))) none)
 
 unfoldable pub frac_rest : List ℕ → Option (List ℕ)
-frac_rest s = cond (eqb (byte_at s 0) 0x2_e) (digits1_rest (drop 1 s)) (some s)
+frac_rest s = cond (eqb (byte_at s 0) 0x2E) (digits1_rest (drop 1 s)) (some s)
 
 unfoldable pub exp_rest : List ℕ → Option (List ℕ)
 exp_rest s = cond (eqb (byte_at s 0) 0x65 || eqb (byte_at s 0) 0x45) (digits1_rest (skip_sign (drop 1 s))) (some s)
@@ -111,7 +111,7 @@ number_rest s = and_then (and_then (int_rest (skip_minus s)) frac_rest) exp_rest
 
 -- a byte by which a number in front of it may go on
 unfoldable pub goes_on : ℕ → Bool
-goes_on b = is_digit b || (eqb b 0x2_e || (eqb b 0x65 || eqb b 0x45))
+goes_on b = is_digit b || (eqb b 0x2E || (eqb b 0x65 || eqb b 0x45))
 
 -- the bytes in front of r
 abbrev pub up_to : (r s : List ℕ) → List ℕ
@@ -124,14 +124,14 @@ word_rest (w ∷ ws) s = cond (eqb (byte_at s 0) w) (word_rest ws (drop 1 s)) no
 
 unfoldable pub literal_rest : List ℕ → Option (List ℕ)
 literal_rest s =
-    cond (eqb (byte_at s 0) 0x6_e) (word_rest (0x75 ∷ 0x6_c ∷ 0x6_c ∷ []) (drop 1 s))
+    cond (eqb (byte_at s 0) 0x6E) (word_rest (0x75 ∷ 0x6C ∷ 0x6C ∷ []) (drop 1 s))
     (cond (eqb (byte_at s 0) 0x74) (word_rest (0x72 ∷ 0x75 ∷ 0x65 ∷ []) (drop 1 s))
-    (cond (eqb (byte_at s 0) 0x66) (word_rest (0x61 ∷ 0x6_c ∷ 0x73 ∷ 0x65 ∷ []) (drop 1 s))
+    (cond (eqb (byte_at s 0) 0x66) (word_rest (0x61 ∷ 0x6C ∷ 0x73 ∷ 0x65 ∷ []) (drop 1 s))
     none))
 
 -- a name, its colon and the ws behind that
 unfoldable pub colon_rest : List ℕ → Option (List ℕ)
-colon_rest s = cond (eqb (byte_at s 0) 0x3_a) (some (skip_ws (drop 1 s))) none
+colon_rest s = cond (eqb (byte_at s 0) 0x3A) (some (skip_ws (drop 1 s))) none
 
 unfoldable pub name_rest : List ℕ → Option (List ℕ)
 name_rest s = cond (eqb (byte_at s 0) 0x22) (and_then (chars_rest (drop 1 s)) (λ r. colon_rest (skip_ws r))) none

@@ -37,10 +37,10 @@ fn is_ws(b: u32) -> bool
     if b == 0x09 {
         return true;
     }
-    if b == 0x0_a {
+    if b == 0x0A {
         return true;
     }
-    b == 0x0_d
+    b == 0x0D
 }
 
 // The first place from at on that holds no ws.

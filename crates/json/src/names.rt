@@ -30,7 +30,7 @@ pub fn literal_end(text: &[u8], at: usize) -> End
     ensures { Ends text.now (at + 1) (literal_rest (drop at text.now)) result }
 {
     let b = byte(text, at);
-    if b == 0x6_e {
+    if b == 0x6E {
         return word_end(text, at + 1, b"ull");
     }
     if b == 0x74 {
@@ -47,7 +47,7 @@ fn colon_end(text: &[u8], at: usize) -> End
     requires { at ≤ length text.now }
     ensures { Ends text.now (at + 1) (colon_rest (drop at text.now)) result }
 {
-    if byte(text, at) == 0x3_a {
+    if byte(text, at) == 0x3A {
         End::At(skip_ws(text, at + 1))
     } else {
         End::Nowhere

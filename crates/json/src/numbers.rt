@@ -55,7 +55,7 @@ fn after_minus(text: &[u8], at: usize) -> usize
     requires { at ≤ length text.now }
     ensures { (drop result text.now ≡ skip_minus (drop at text.now)) × (at ≤ result) × (result ≤ length text.now) }
 {
-    if byte(text, at) == 0x2_d { at + 1 } else { at }
+    if byte(text, at) == 0x2D { at + 1 } else { at }
 }
 
 fn after_sign(text: &[u8], at: usize) -> usize
@@ -63,10 +63,10 @@ fn after_sign(text: &[u8], at: usize) -> usize
     ensures { (drop result text.now ≡ skip_sign (drop at text.now)) × (at ≤ result) × (result ≤ length text.now) }
 {
     let b = byte(text, at);
-    if b == 0x2_d {
+    if b == 0x2D {
         return at + 1;
     }
-    if b == 0x2_b { at + 1 } else { at }
+    if b == 0x2B { at + 1 } else { at }
 }
 
 fn int_end(text: &[u8], at: usize) -> End
@@ -88,7 +88,7 @@ fn frac_end(text: &[u8], at: usize) -> End
     requires { at ≤ length text.now }
     ensures { Ends text.now at (frac_rest (drop at text.now)) result }
 {
-    if byte(text, at) == 0x2_e {
+    if byte(text, at) == 0x2E {
         digits1_end(text, at + 1)
     } else {
         End::At(at)
@@ -153,7 +153,7 @@ pub fn number_allowed(text: &[u8], from: usize, to: usize) -> bool
     requires { (from < to) × (to ≤ length text.now) }
     ensures { result ≡ allowed (take (to - from) (drop from text.now)) }
 {
-    if text[from] == 0x2_d {
+    if text[from] == 0x2D {
         match decimal_of(text, from + 1, to) {
             Decimal::Number(n) => {
                 if n < 1 {

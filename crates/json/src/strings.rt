@@ -15,29 +15,29 @@ pub fn plain(b: u32) -> bool
     if b == 0x22 {
         return false;
     }
-    if b == 0x5_c {
+    if b == 0x5C {
         return false;
     }
-    within(0x20, 0x7_f, b)
+    within(0x20, 0x7F, b)
 }
 
 fn tail(b: u32) -> bool
     ensures { result ≡ tail b }
 {
-    within(0x80, 0x_bf, b)
+    within(0x80, 0xBF, b)
 }
 
 // Whether a and b may begin a char of three bytes: no overlong form, no surrogate.
 fn first_of_three(a: u32, b: u32) -> bool
     ensures { result ≡ first_of_three a b }
 {
-    if a == 0x_e0 {
-        return within(0x_a0, 0x_bf, b);
+    if a == 0xE0 {
+        return within(0xA0, 0xBF, b);
     }
-    if a == 0x_ed {
-        return within(0x80, 0x9_f, b);
+    if a == 0xED {
+        return within(0x80, 0x9F, b);
     }
-    if within(0x_e1, 0x_ef, a) {
+    if within(0xE1, 0xEF, a) {
         tail(b)
     } else {
         false
@@ -48,13 +48,13 @@ fn first_of_three(a: u32, b: u32) -> bool
 fn first_of_four(a: u32, b: u32) -> bool
     ensures { result ≡ first_of_four a b }
 {
-    if a == 0x_f0 {
-        return within(0x90, 0x_bf, b);
+    if a == 0xF0 {
+        return within(0x90, 0xBF, b);
     }
-    if a == 0x_f4 {
-        return within(0x80, 0x8_f, b);
+    if a == 0xF4 {
+        return within(0x80, 0x8F, b);
     }
-    if within(0x_f1, 0x_f3, a) {
+    if within(0xF1, 0xF3, a) {
         tail(b)
     } else {
         false
@@ -66,11 +66,11 @@ pub fn escape_of(b: u32) -> u32
     ensures { result ≡ escape_of b }
 {
     match b {
-        0x22 | 0x5_c | 0x2_f => b,
+        0x22 | 0x5C | 0x2F => b,
         0x62 => 0x08,
-        0x66 => 0x0_c,
-        0x6_e => 0x0_a,
-        0x72 => 0x0_d,
+        0x66 => 0x0C,
+        0x6E => 0x0A,
+        0x72 => 0x0D,
         0x74 => 0x09,
         _ => 256,
     }
@@ -118,23 +118,23 @@ pub fn hex_at(text: &[u8], at: usize) -> u32
 pub fn is_scalar(n: u32) -> bool
     ensures { result ≡ is_scalar n }
 {
-    if n < 0x_d800 {
+    if n < 0xD800 {
         true
     } else {
-        within(0x_e000, 0x_ffff, n)
+        within(0xE000, 0xFFFF, n)
     }
 }
 
 fn is_high(n: u32) -> bool
     ensures { result ≡ is_high n }
 {
-    within(0x_d800, 0x_dbff, n)
+    within(0xD800, 0xDBFF, n)
 }
 
 fn is_low(n: u32) -> bool
     ensures { result ≡ is_low n }
 {
-    within(0x_dc00, 0x_dfff, n)
+    within(0xDC00, 0xDFFF, n)
 }
 
 // 12 where a surrogate pair stands at a place, else 0.
@@ -145,7 +145,7 @@ fn pair_len(text: &[u8], at: usize) -> usize
     if !is_high(hex_at(text, at + 2)) {
         return 0;
     }
-    if byte(text, at + 6) != 0x5_c {
+    if byte(text, at + 6) != 0x5C {
         return 0;
     }
     if byte(text, at + 7) != 0x75 {
@@ -180,7 +180,7 @@ fn utf8_len(text: &[u8], at: usize) -> usize
 {
     let a = byte(text, at);
     let b = byte(text, at + 1);
-    if within(0x_c2, 0x_df, a) {
+    if within(0xC2, 0xDF, a) {
         if tail(b) {
             return 2;
         }
@@ -203,7 +203,7 @@ pub fn special_len(text: &[u8], at: usize) -> usize
     requires { at ≤ longest }
     ensures { result ≡ special_len (drop at text.now) }
 {
-    if byte(text, at) == 0x5_c {
+    if byte(text, at) == 0x5C {
         escape_len(text, at)
     } else {
         utf8_len(text, at)
@@ -221,7 +221,7 @@ fn next_mark(text: &[u8], at: usize) -> usize
         if b == 0x22 {
             return i;
         }
-        if b == 0x5_c {
+        if b == 0x5C {
             return i;
         }
         i += 1;

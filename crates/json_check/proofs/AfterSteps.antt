@@ -16,24 +16,24 @@ module _ (t : List ℕ) (i b : ℕ) (at : b ≡ byte_at t i) (k : List Bool) (g 
   front : byte_at (drop i t) 0 ≡ b
   front = front-byte t i b at
 
-  pub item-end : {l : List Bool} → b ≡ 0x5_d → l ≡ k → after_item k (drop i t) g ≡ go (after l (drop (i + 1) t) g)
+  pub item-end : {l : List Bool} → b ≡ 0x5D → l ≡ k → after_item k (drop i t) g ≡ go (after l (drop (i + 1) t) g)
   unfolding after_item
   item-end h q = rw (front, h, behind-here t i, q)
 
-  pub item-none : (b ≡ 0x5_d → ⊥) → (b ≡ 0x2_c → ⊥) → after_item k (drop i t) g ≡ bad
+  pub item-none : (b ≡ 0x5D → ⊥) → (b ≡ 0x2C → ⊥) → after_item k (drop i t) g ≡ bad
   unfolding after_item
-  item-none p q = rw (front, ne_eqb b 0x5_d p, ne_eqb b 0x2_c q)
+  item-none p q = rw (front, ne_eqb b 0x5D p, ne_eqb b 0x2C q)
 
-  pub member-end : {l : List Bool} → b ≡ 0x7_d → l ≡ k → after_member k (drop i t) g ≡ go (after l (drop (i + 1) t) g)
+  pub member-end : {l : List Bool} → b ≡ 0x7D → l ≡ k → after_member k (drop i t) g ≡ go (after l (drop (i + 1) t) g)
   unfolding after_member
   member-end h q = rw (front, h, behind-here t i, q)
 
-  pub member-none : (b ≡ 0x7_d → ⊥) → (b ≡ 0x2_c → ⊥) → after_member k (drop i t) g ≡ bad
+  pub member-none : (b ≡ 0x7D → ⊥) → (b ≡ 0x2C → ⊥) → after_member k (drop i t) g ≡ bad
   unfolding after_member
-  member-none p q = rw (front, ne_eqb b 0x7_d p, ne_eqb b 0x2_c q)
+  member-none p q = rw (front, ne_eqb b 0x7D p, ne_eqb b 0x2C q)
 
   -- behind a comma and its ws, at w
-  module _ (h : b ≡ 0x2_c) (w : ℕ) (ws : drop w t ≡ skip_ws (drop (i + 1) t)) where
+  module _ (h : b ≡ 0x2C) (w : ℕ) (ws : drop w t ≡ skip_ws (drop (i + 1) t)) where
     pub item-next : {l : List Bool} → l ≡ true ∷ k → after_item k (drop i t) g ≡ go (value l (drop w t) g)
     unfolding after_item
     item-next q = rw (front, h, behind-here t i, ← ws, q)

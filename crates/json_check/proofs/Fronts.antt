@@ -33,7 +33,7 @@ apart t b c p q = ne_eqb b c (λ e. let h : t b ≡ t c = ap t e in let z : ◌�
 
 -- what begins a number
 unfoldable pub numeric : ℕ → Bool
-numeric b = eqb b 0x2_d || is_digit b
+numeric b = eqb b 0x2D || is_digit b
 
 none_of : (a b c d : Bool) → a ≡ false → b ≡ false → c ≡ false → d ≡ false → (a || (b || (c || d))) ≡ false
 none_of a b c d p q r s = rw (p, q, r, s)
@@ -41,23 +41,23 @@ none_of a b c d p q r s = rw (p, q, r, s)
 numeric-ws : (b : ℕ) → numeric b ≡ true → is_ws b ≡ false
 unfolding numeric is_ws is_digit within
 numeric-ws b h =
-    none_of (eqb b 0x20) (eqb b 0x09) (eqb b 0x0_a) (eqb b 0x0_d)
-    (apart numeric b 0x20 h refl) (apart numeric b 0x09 h refl) (apart numeric b 0x0_a h refl) (apart numeric b 0x0_d h refl)
+    none_of (eqb b 0x20) (eqb b 0x09) (eqb b 0x0A) (eqb b 0x0D)
+    (apart numeric b 0x20 h refl) (apart numeric b 0x09 h refl) (apart numeric b 0x0A h refl) (apart numeric b 0x0D h refl)
 
 -- ---- the front of a value
 -- the first byte of a value is no ws, and none of ] }
 pub record Front (b : ℕ) : Type 0 where
   pub no-space : is_ws b ≡ false
-  pub no-bracket : eqb b 0x5_d ≡ false
-  pub no-brace : eqb b 0x7_d ≡ false
+  pub no-bracket : eqb b 0x5D ≡ false
+  pub no-brace : eqb b 0x7D ≡ false
 
 numeric-front : (b : ℕ) → numeric b ≡ true → Front b
 unfolding numeric is_digit within
 numeric-front b h =
     record {
       no-space = numeric-ws b h;
-      no-bracket = apart numeric b 0x5_d h refl;
-      no-brace = apart numeric b 0x7_d h refl;
+      no-bracket = apart numeric b 0x5D h refl;
+      no-brace = apart numeric b 0x7D h refl;
     }
 
 pub val-front : {s r : List ℕ} {v : Value} → Val s v r → Front (byte_at s 0)

@@ -51,9 +51,9 @@ pub record Literal (s r : List ℕ) : Type 0 where
 pub rest-literal : (s r : List ℕ) → literal_rest s ≡ some r → Literal s r
 unfolding literal_rest fault
 rest-literal s r =
-    by_word 0x6_e (0x75 ∷ 0x6_c ∷ 0x6_c ∷ []) null (refl, (refl, (refl, (refl, tt)))) a_null (λ d. refl)
+    by_word 0x6E (0x75 ∷ 0x6C ∷ 0x6C ∷ []) null (refl, (refl, (refl, (refl, tt)))) a_null (λ d. refl)
     (by_word 0x74 (0x72 ∷ 0x75 ∷ 0x65 ∷ []) (boolean true) (refl, (refl, (refl, (refl, tt)))) a_true (λ d. refl)
-    (by_word 0x66 (0x61 ∷ 0x6_c ∷ 0x73 ∷ 0x65 ∷ []) (boolean false) (refl, (refl, (refl, (refl, (refl, tt))))) a_false (λ d. refl)
+    (by_word 0x66 (0x61 ∷ 0x6C ∷ 0x73 ∷ 0x65 ∷ []) (boolean false) (refl, (refl, (refl, (refl, (refl, tt))))) a_false (λ d. refl)
     (no-rest r)))
   where
     -- the word c ∷ w, which writes v, or what else is read

@@ -67,20 +67,20 @@ ws-to s c h q = subst (λ (t : List ℕ). Ws s t) (begins (skip_ws s) c h q) (sk
 module _ (k : List Bool) (s : List ℕ) (g n : ℕ) where
   in-array :
       Leads (in_array k (skip_ws s) g) n →
-      (vs : Items) × (r : List ℕ) × Val (0x5_b ∷ s) (array vs) r × Rest k r (first g (items_fault (suc (length k)) vs)) n
+      (vs : Items) × (r : List ℕ) × Val (0x5B ∷ s) (array vs) r × Rest k r (first g (items_fault (suc (length k)) vs)) n
   unfolding in_array fault items_fault members_fault
   in-array =
-      by-test (eqb (byte_at (skip_ws s) 0) 0x5_d) (go (after k (drop 1 (skip_ws s)) g)) (go (value (true ∷ k) (skip_ws s) g)) n
-      (λ e m. (no_items, drop 1 (skip_ws s), empty_array (ws-to s 0x5_d refl e), rw first-zero m))
+      by-test (eqb (byte_at (skip_ws s) 0) 0x5D) (go (after k (drop 1 (skip_ws s)) g)) (go (value (true ∷ k) (skip_ws s) g)) n
+      (λ e m. (no_items, drop 1 (skip_ws s), empty_array (ws-to s 0x5D refl e), rw first-zero m))
       (λ e m. (item m.0 m.3.0, m.3.1, an_array (skips-ws s) m.2 m.3.2, rw first-assoc at m.3.3))
 
   in-object :
       Leads (in_object k (skip_ws s) g) n →
-      (ms : Members) × (r : List ℕ) × Val (0x7_b ∷ s) (object ms) r × Rest k r (first g (members_fault (suc (length k)) ms)) n
+      (ms : Members) × (r : List ℕ) × Val (0x7B ∷ s) (object ms) r × Rest k r (first g (members_fault (suc (length k)) ms)) n
   unfolding in_object fault items_fault members_fault
   in-object =
-      by-test (eqb (byte_at (skip_ws s) 0) 0x7_d) (go (after k (drop 1 (skip_ws s)) g)) (onward (name_rest (skip_ws s)) f) n
-      (λ e m. (no_members, drop 1 (skip_ws s), empty_object (ws-to s 0x7_d refl e), rw first-zero m))
+      by-test (eqb (byte_at (skip_ws s) 0) 0x7D) (go (after k (drop 1 (skip_ws s)) g)) (onward (name_rest (skip_ws s)) f) n
+      (λ e m. (no_members, drop 1 (skip_ws s), empty_object (ws-to s 0x7D refl e), rw first-zero m))
       (λ e. by-onward (name_rest (skip_ws s)) f n
       (λ r q m. let (x, c) = rest-name (skip_ws s) r q in
       (member x m.0 m.3.0, m.3.1, an_object (skips-ws s) c m.2 m.3.2, rw first-assoc at m.3.3)))
@@ -91,13 +91,13 @@ module _ (k : List Bool) (s : List ℕ) (g n : ℕ) where
   after-item : Leads (after_item k (skip_ws s) g) n → Rest (true ∷ k) s g n
   unfolding after_item fault items_fault members_fault
   after-item =
-      by-test (eqb (byte_at t 0) 0x5_d) (go (after k (drop 1 t) g)) (cond (eqb (byte_at t 0) 0x2_c) (go v) bad) n
-      (λ e m. (no_items, drop 1 t, end_array (ws-to s 0x5_d refl e), rw first-zero m))
-      (λ q. by-test (eqb (byte_at t 0) 0x2_c) (go v) bad n
+      by-test (eqb (byte_at t 0) 0x5D) (go (after k (drop 1 t) g)) (cond (eqb (byte_at t 0) 0x2C) (go v) bad) n
+      (λ e m. (no_items, drop 1 t, end_array (ws-to s 0x5D refl e), rw first-zero m))
+      (λ q. by-test (eqb (byte_at t 0) 0x2C) (go v) bad n
       (λ e m. (
         item m.0 m.3.0,
         m.3.1,
-        next_item (ws-to s 0x2_c refl e) (skips-ws (drop 1 t)) m.2 m.3.2,
+        next_item (ws-to s 0x2C refl e) (skips-ws (drop 1 t)) m.2 m.3.2,
         rw first-assoc at m.3.3,
       ))
       (λ e m. absurd m))
@@ -111,14 +111,14 @@ module _ (k : List Bool) (s : List ℕ) (g n : ℕ) where
   after-member : Leads (after_member k (skip_ws s) g) n → Rest (false ∷ k) s g n
   unfolding after_member fault items_fault members_fault
   after-member =
-      by-test (eqb (byte_at t 0) 0x7_d) (go (after k (drop 1 t) g)) (cond (eqb (byte_at t 0) 0x2_c) (onward (name_rest u) f) bad) n
-      (λ e m. (no_members, drop 1 t, end_object (ws-to s 0x7_d refl e), rw first-zero m))
-      (λ q. by-test (eqb (byte_at t 0) 0x2_c) (onward (name_rest u) f) bad n
+      by-test (eqb (byte_at t 0) 0x7D) (go (after k (drop 1 t) g)) (cond (eqb (byte_at t 0) 0x2C) (onward (name_rest u) f) bad) n
+      (λ e m. (no_members, drop 1 t, end_object (ws-to s 0x7D refl e), rw first-zero m))
+      (λ q. by-test (eqb (byte_at t 0) 0x2C) (onward (name_rest u) f) bad n
       (λ e. by-onward (name_rest u) f n
       (λ r q m. let (x, c) = rest-name u r q in (
         member x m.0 m.3.0,
         m.3.1,
-        next_member (ws-to s 0x2_c refl e) (skips-ws (drop 1 t)) c m.2 m.3.2,
+        next_member (ws-to s 0x2C refl e) (skips-ws (drop 1 t)) c m.2 m.3.2,
         rw first-assoc at m.3.3,
       )))
       (λ e m. absurd m))
@@ -150,17 +150,17 @@ module _ (k : List Bool) (s : List ℕ) (g n : ℕ) where
       by-onward (number_rest s) (λ r. after k r (first g (number_fault (up_to r s)))) n
       (λ r e m. let c = rest-number s r e in (number (up_to r s), r, a_number c (number_read c), m))
 
-  of_array : eqb (byte_at s 0) 0x5_b ≡ true → Leads (in_array k (skip_ws (drop 1 s)) (first g (depth_fault (length k)))) n → Ahead k s g n
+  of_array : eqb (byte_at s 0) 0x5B ≡ true → Leads (in_array k (skip_ws (drop 1 s)) (first g (depth_fault (length k)))) n → Ahead k s g n
   unfolding fault
   of_array q m =
       let (vs, r, v, h) = in-array k (drop 1 s) (first g (depth_fault (length k))) n m in
-      (array vs, r, from s 0x5_b refl q v, rw first-assoc at h)
+      (array vs, r, from s 0x5B refl q v, rw first-assoc at h)
 
-  of-object : eqb (byte_at s 0) 0x7_b ≡ true → Leads (in_object k (skip_ws (drop 1 s)) (first g (depth_fault (length k)))) n → Ahead k s g n
+  of-object : eqb (byte_at s 0) 0x7B ≡ true → Leads (in_object k (skip_ws (drop 1 s)) (first g (depth_fault (length k)))) n → Ahead k s g n
   unfolding fault
   of-object q m =
       let (ms, r, v, h) = in-object k (drop 1 s) (first g (depth_fault (length k))) n m in
-      (object ms, r, from s 0x7_b refl q v, rw first-assoc at h)
+      (object ms, r, from s 0x7B refl q v, rw first-assoc at h)
 
   of-literal : Leads (of_literal k s g) n → Ahead k s g n
   unfolding of_literal
@@ -172,9 +172,9 @@ module _ (k : List Bool) (s : List ℕ) (g n : ℕ) where
   unfolding of_value
   of-value =
       by-test (eqb b 0x22) (of_string k s g) c n of-string
-      (λ h. by-test (eqb b 0x2_d || is_digit b) (of_number k s g) d n (λ q. of_number_lem)
-      (λ h. by-test (eqb b 0x5_b) (in_array k u i) e n of_array
-      (λ h. by-test (eqb b 0x7_b) (in_object k u i) (of_literal k s g) n of-object (λ q. of-literal))))
+      (λ h. by-test (eqb b 0x2D || is_digit b) (of_number k s g) d n (λ q. of_number_lem)
+      (λ h. by-test (eqb b 0x5B) (in_array k u i) e n of_array
+      (λ h. by-test (eqb b 0x7B) (in_object k u i) (of_literal k s g) n of-object (λ q. of-literal))))
     where
       b : ℕ
       b = byte_at s 0
@@ -186,13 +186,13 @@ module _ (k : List Bool) (s : List ℕ) (g n : ℕ) where
       i = first g (depth_fault (length k))
 
       e : Next
-      e = cond (eqb b 0x7_b) (in_object k u i) (of_literal k s g)
+      e = cond (eqb b 0x7B) (in_object k u i) (of_literal k s g)
 
       d : Next
-      d = cond (eqb b 0x5_b) (in_array k u i) e
+      d = cond (eqb b 0x5B) (in_array k u i) e
 
       c : Next
-      c = cond (eqb b 0x2_d || is_digit b) (of_number k s g) d
+      c = cond (eqb b 0x2D || is_digit b) (of_number k s g) d
 
 -- ---- a run
 next-means : (q : State) (n : ℕ) → Leads (next q) n → Means q n

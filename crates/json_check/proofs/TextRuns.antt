@@ -51,44 +51,44 @@ module _ (k : List Bool) (g : ℕ) where
   string-step c = rw (chars_rest c)
 
   empty-array-step :
-      {s r : List ℕ} → Ws s (0x5_d ∷ r) → next (value k (0x5_b ∷ s) g) ≡ go (after k r (first g (depth_fault (length k))))
+      {s r : List ℕ} → Ws s (0x5D ∷ r) → next (value k (0x5B ∷ s) g) ≡ go (after k r (first g (depth_fault (length k))))
   unfolding next of_value in_array is_ws is_digit within
   empty-array-step w = rw (skips-to w refl)
 
   array-step :
       {s t r : List ℕ} {v : Value} →
-      Ws s t → Val t v r → next (value k (0x5_b ∷ s) g) ≡ go (value (true ∷ k) t (first g (depth_fault (length k))))
+      Ws s t → Val t v r → next (value k (0x5B ∷ s) g) ≡ go (value (true ∷ k) t (first g (depth_fault (length k))))
   unfolding next of_value in_array is_digit within
   array-step w v = rw (skips-val w v, (val-front v).no-bracket)
 
   empty-object-step :
-      {s r : List ℕ} → Ws s (0x7_d ∷ r) → next (value k (0x7_b ∷ s) g) ≡ go (after k r (first g (depth_fault (length k))))
+      {s r : List ℕ} → Ws s (0x7D ∷ r) → next (value k (0x7B ∷ s) g) ≡ go (after k r (first g (depth_fault (length k))))
   unfolding next of_value in_object is_ws is_digit within
   empty-object-step w = rw (skips-to w refl)
 
   object-step :
       {s t x u r : List ℕ} {v : Value} →
-      Ws s t → Name t x u → Val u v r → next (value k (0x7_b ∷ s) g) ≡ go (value (false ∷ k) u (first g (depth_fault (length k))))
+      Ws s t → Name t x u → Val u v r → next (value k (0x7B ∷ s) g) ≡ go (value (false ∷ k) u (first g (depth_fault (length k))))
   unfolding next of_value in_object is_digit within
   object-step w n v = rw (skips-name w n, name-mark n, name-rest n (val-front v).no-space)
 
-  end-array-step : {s r : List ℕ} → Ws s (0x5_d ∷ r) → next (after (true ∷ k) s g) ≡ go (after k r g)
+  end-array-step : {s r : List ℕ} → Ws s (0x5D ∷ r) → next (after (true ∷ k) s g) ≡ go (after k r g)
   unfolding next of_after after_item is_ws
   end-array-step w = rw (skips-to w refl)
 
   item-step :
       {s t u r : List ℕ} {v : Value} →
-      Ws s (0x2_c ∷ t) → Ws t u → Val u v r → next (after (true ∷ k) s g) ≡ go (value (true ∷ k) u g)
+      Ws s (0x2C ∷ t) → Ws t u → Val u v r → next (after (true ∷ k) s g) ≡ go (value (true ∷ k) u g)
   unfolding next of_after after_item is_ws
   item-step w x v = rw (skips-to w refl, skips-val x v)
 
-  end-object-step : {s r : List ℕ} → Ws s (0x7_d ∷ r) → next (after (false ∷ k) s g) ≡ go (after k r g)
+  end-object-step : {s r : List ℕ} → Ws s (0x7D ∷ r) → next (after (false ∷ k) s g) ≡ go (after k r g)
   unfolding next of_after after_member is_ws
   end-object-step w = rw (skips-to w refl)
 
   member-step :
       {s t u x w r : List ℕ} {v : Value} →
-      Ws s (0x2_c ∷ t) → Ws t u → Name u x w → Val w v r → next (after (false ∷ k) s g) ≡ go (value (false ∷ k) w g)
+      Ws s (0x2C ∷ t) → Ws t u → Name u x w → Val w v r → next (after (false ∷ k) s g) ≡ go (value (false ∷ k) w g)
   unfolding next of_after after_member is_ws
   member-step w y n v = rw (skips-to w refl, skips-name y n, name-rest n (val-front v).no-space)
 

@@ -56,27 +56,27 @@ module _
     front-behind : byte_at (drop w t) 0 ≡ b
     front-behind = front-byte t w b at
 
-    pub array-end : b ≡ 0x5_d → in_array k (skip_ws (drop (i + 1) t)) g ≡ go (after k (drop (w + 1) t) f)
+    pub array-end : b ≡ 0x5D → in_array k (skip_ws (drop (i + 1) t)) g ≡ go (after k (drop (w + 1) t) f)
     unfolding in_array
     array-end h = rw (← ws, front-behind, h, behind-here t w, same)
 
-    pub array-item : {l : List Bool} → (b ≡ 0x5_d → ⊥) → l ≡ true ∷ k → in_array k (skip_ws (drop (i + 1) t)) g ≡ go (value l (drop w t) f)
+    pub array-item : {l : List Bool} → (b ≡ 0x5D → ⊥) → l ≡ true ∷ k → in_array k (skip_ws (drop (i + 1) t)) g ≡ go (value l (drop w t) f)
     unfolding in_array
-    array-item h q = rw (← ws, front-behind, ne_eqb b 0x5_d h, same, q)
+    array-item h q = rw (← ws, front-behind, ne_eqb b 0x5D h, same, q)
 
-    pub object-end : b ≡ 0x7_d → in_object k (skip_ws (drop (i + 1) t)) g ≡ go (after k (drop (w + 1) t) f)
+    pub object-end : b ≡ 0x7D → in_object k (skip_ws (drop (i + 1) t)) g ≡ go (after k (drop (w + 1) t) f)
     unfolding in_object
     object-end h = rw (← ws, front-behind, h, behind-here t w, same)
 
-    pub object-no-name : (b ≡ 0x7_d → ⊥) → name_rest (drop w t) ≡ none → in_object k (skip_ws (drop (i + 1) t)) g ≡ bad
+    pub object-no-name : (b ≡ 0x7D → ⊥) → name_rest (drop w t) ≡ none → in_object k (skip_ws (drop (i + 1) t)) g ≡ bad
     unfolding in_object
-    object-no-name h n = rw (← ws, front-behind, ne_eqb b 0x7_d h, n)
+    object-no-name h n = rw (← ws, front-behind, ne_eqb b 0x7D h, n)
 
     pub object-name :
-        {l : List Bool} (e : ℕ) → (b ≡ 0x7_d → ⊥) → name_rest (drop w t) ≡ some (drop e t) → l ≡ false ∷ k →
+        {l : List Bool} (e : ℕ) → (b ≡ 0x7D → ⊥) → name_rest (drop w t) ≡ some (drop e t) → l ≡ false ∷ k →
         in_object k (skip_ws (drop (i + 1) t)) g ≡ go (value l (drop e t) f)
     unfolding in_object
-    object-name e h n q = rw (← ws, front-behind, ne_eqb b 0x7_d h, n, same, q)
+    object-name e h n q = rw (← ws, front-behind, ne_eqb b 0x7D h, n, same, q)
 
 -- at a value, by its first byte b
 module _ (t : List ℕ) (i b : ℕ) (at : b ≡ byte_at t i) (k : List Bool) (g : ℕ) where
@@ -87,26 +87,26 @@ module _ (t : List ℕ) (i b : ℕ) (at : b ≡ byte_at t i) (k : List Bool) (g 
   unfolding of_value
   value-string h = rw (front, h)
 
-  pub value-minus : b ≡ 0x2_d → of_value k (drop i t) g ≡ of_number k (drop i t) g
+  pub value-minus : b ≡ 0x2D → of_value k (drop i t) g ≡ of_number k (drop i t) g
   unfolding of_value
   value-minus h = rw (front, h)
 
-  pub value-digit : (b ≡ 0x22 → ⊥) → (b ≡ 0x2_d → ⊥) → is_digit b ≡ true → of_value k (drop i t) g ≡ of_number k (drop i t) g
+  pub value-digit : (b ≡ 0x22 → ⊥) → (b ≡ 0x2D → ⊥) → is_digit b ≡ true → of_value k (drop i t) g ≡ of_number k (drop i t) g
   unfolding of_value
-  value-digit p q h = rw (front, ne_eqb b 0x22 p, ne_eqb b 0x2_d q, h)
+  value-digit p q h = rw (front, ne_eqb b 0x22 p, ne_eqb b 0x2D q, h)
 
   -- with d brackets open
   module _ (d : ℕ) (deep : length k ≡ d) where
-    pub value-array : b ≡ 0x5_b → of_value k (drop i t) g ≡ in_array k (skip_ws (drop (i + 1) t)) (first g (depth_fault d))
+    pub value-array : b ≡ 0x5B → of_value k (drop i t) g ≡ in_array k (skip_ws (drop (i + 1) t)) (first g (depth_fault d))
     unfolding of_value is_digit within
     value-array h = rw (front, h, behind-here t i, deep)
 
-    pub value-object : b ≡ 0x7_b → of_value k (drop i t) g ≡ in_object k (skip_ws (drop (i + 1) t)) (first g (depth_fault d))
+    pub value-object : b ≡ 0x7B → of_value k (drop i t) g ≡ in_object k (skip_ws (drop (i + 1) t)) (first g (depth_fault d))
     unfolding of_value is_digit within
     value-object h = rw (front, h, behind-here t i, deep)
 
   pub value-literal :
-      (b ≡ 0x22 → ⊥) → (b ≡ 0x2_d → ⊥) → is_digit b ≡ false → (b ≡ 0x5_b → ⊥) → (b ≡ 0x7_b → ⊥) →
+      (b ≡ 0x22 → ⊥) → (b ≡ 0x2D → ⊥) → is_digit b ≡ false → (b ≡ 0x5B → ⊥) → (b ≡ 0x7B → ⊥) →
       of_value k (drop i t) g ≡ of_literal k (drop i t) g
   unfolding of_value
-  value-literal p q h r s = rw (front, ne_eqb b 0x22 p, ne_eqb b 0x2_d q, h, ne_eqb b 0x5_b r, ne_eqb b 0x7_b s)
+  value-literal p q h r s = rw (front, ne_eqb b 0x22 p, ne_eqb b 0x2D q, h, ne_eqb b 0x5B r, ne_eqb b 0x7B s)

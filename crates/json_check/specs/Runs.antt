@@ -23,10 +23,10 @@ onward (some r) f = go (f r)
 
 -- behind an opening bracket and its ws
 unfoldable pub in_array : List Bool → List ℕ → ℕ → Next
-in_array k s g = cond (eqb (byte_at s 0) 0x5_d) (go (after k (drop 1 s) g)) (go (value (true ∷ k) s g))
+in_array k s g = cond (eqb (byte_at s 0) 0x5D) (go (after k (drop 1 s) g)) (go (value (true ∷ k) s g))
 
 unfoldable pub in_object : List Bool → List ℕ → ℕ → Next
-in_object k s g = cond (eqb (byte_at s 0) 0x7_d) (go (after k (drop 1 s) g)) (onward (name_rest s) (λ r. value (false ∷ k) r g))
+in_object k s g = cond (eqb (byte_at s 0) 0x7D) (go (after k (drop 1 s) g)) (onward (name_rest s) (λ r. value (false ∷ k) r g))
 
 unfoldable pub of_string : List Bool → List ℕ → ℕ → Next
 of_string k s g = onward (chars_rest (drop 1 s)) (λ r. after k r g)
@@ -40,9 +40,9 @@ of_literal k s g = onward (literal_rest s) (λ r. after k r g)
 unfoldable pub of_value : List Bool → List ℕ → ℕ → Next
 of_value k s g =
     cond (eqb (byte_at s 0) 0x22) (of_string k s g)
-    (cond (eqb (byte_at s 0) 0x2_d || is_digit (byte_at s 0)) (of_number k s g)
-    (cond (eqb (byte_at s 0) 0x5_b) (in_array k (skip_ws (drop 1 s)) (first g (depth_fault (length k))))
-    (cond (eqb (byte_at s 0) 0x7_b) (in_object k (skip_ws (drop 1 s)) (first g (depth_fault (length k))))
+    (cond (eqb (byte_at s 0) 0x2D || is_digit (byte_at s 0)) (of_number k s g)
+    (cond (eqb (byte_at s 0) 0x5B) (in_array k (skip_ws (drop 1 s)) (first g (depth_fault (length k))))
+    (cond (eqb (byte_at s 0) 0x7B) (in_object k (skip_ws (drop 1 s)) (first g (depth_fault (length k))))
     (of_literal k s g))))
 
 -- behind a value and its ws
@@ -52,14 +52,14 @@ no_more (b ∷ s) g = bad
 
 unfoldable pub after_item : List Bool → List ℕ → ℕ → Next
 after_item k s g =
-    cond (eqb (byte_at s 0) 0x5_d) (go (after k (drop 1 s) g))
-    (cond (eqb (byte_at s 0) 0x2_c) (go (value (true ∷ k) (skip_ws (drop 1 s)) g))
+    cond (eqb (byte_at s 0) 0x5D) (go (after k (drop 1 s) g))
+    (cond (eqb (byte_at s 0) 0x2C) (go (value (true ∷ k) (skip_ws (drop 1 s)) g))
     bad)
 
 unfoldable pub after_member : List Bool → List ℕ → ℕ → Next
 after_member k s g =
-    cond (eqb (byte_at s 0) 0x7_d) (go (after k (drop 1 s) g))
-    (cond (eqb (byte_at s 0) 0x2_c) (onward (name_rest (skip_ws (drop 1 s))) (λ r. value (false ∷ k) r g))
+    cond (eqb (byte_at s 0) 0x7D) (go (after k (drop 1 s) g))
+    (cond (eqb (byte_at s 0) 0x2C) (onward (name_rest (skip_ws (drop 1 s))) (λ r. value (false ∷ k) r g))
     bad)
 
 unfoldable pub of_after : List Bool → List ℕ → ℕ → Next

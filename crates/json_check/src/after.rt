@@ -19,14 +19,14 @@ fn item_step(text: &[u8], p: Place) -> Step
     let depth = p.depth;
     let at = p.at;
     let b = byte(text, at);
-    if b == 0x5_d {
+    if b == 0x5D {
         return Step::After(Place {
             at: at + 1,
             depth: depth - 1,
             found: p.found,
         });
     }
-    if b == 0x2_c {
+    if b == 0x2C {
         return Step::Value(Place {
             at: skip_ws(text, at + 1),
             depth,
@@ -45,14 +45,14 @@ fn member_step(text: &[u8], p: Place) -> Step
     let depth = p.depth;
     let at = p.at;
     let b = byte(text, at);
-    if b == 0x7_d {
+    if b == 0x7D {
         return Step::After(Place {
             at: at + 1,
             depth: depth - 1,
             found: p.found,
         });
     }
-    if b != 0x2_c {
+    if b != 0x2C {
         return Step::Bad;
     }
     let End::At(end) = name_end(text, skip_ws(text, at + 1)) else {

@@ -45,7 +45,7 @@ fn array_step(text: &[u8], opened: &mut [bool], p: Place) -> Step
     let depth = p.depth;
     let found = first(p.found, depth_fault(depth));
     let at = skip_ws(text, p.at + 1);
-    if byte(text, at) == 0x5_d {
+    if byte(text, at) == 0x5D {
         return Step::After(Place {
             at: at + 1,
             depth,
@@ -69,7 +69,7 @@ fn object_step(text: &[u8], opened: &mut [bool], p: Place) -> Step
     let depth = p.depth;
     let found = first(p.found, depth_fault(depth));
     let at = skip_ws(text, p.at + 1);
-    if byte(text, at) == 0x7_d {
+    if byte(text, at) == 0x7D {
         return Step::After(Place {
             at: at + 1,
             depth,
@@ -147,16 +147,16 @@ pub fn value_step(text: &[u8], opened: &mut [bool], p: Place) -> Step
     if b == 0x22 {
         return string_step(text, p);
     }
-    if b == 0x2_d {
+    if b == 0x2D {
         return number_step(text, p);
     }
     if is_digit(b) {
         return number_step(text, p);
     }
-    if b == 0x5_b {
+    if b == 0x5B {
         return array_step(text, opened, p);
     }
-    if b == 0x7_b {
+    if b == 0x7B {
         return object_step(text, opened, p);
     }
     literal_step(text, p)

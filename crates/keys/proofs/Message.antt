@@ -53,7 +53,7 @@ unfolding sip padded
 hash-start s = refl
 
 -- the prefix is the whole message's first word
-pub hash-prefix : (s : List ℕ) → HashesTo (compressed (initial 0 0) 0x9_e3779_b97_f4_a7_c15) s 0 (length s + 8) (sip (prefix ++ s))
+pub hash-prefix : (s : List ℕ) → HashesTo (compressed (initial 0 0) 0x9E3779B97F4A7C15) s 0 (length s + 8) (sip (prefix ++ s))
 unfolding sip padded prefix little_endian
 hash-prefix s =
     let e : length s + 8 ≡ length (prefix ++ s) = omega arith ∙ sym (length-append prefix s) in

@@ -5,7 +5,7 @@ use Rattle.keys.specs.Sip.{sip}
 
 -- the eight little-endian bytes of hexadecimal 9E3779B97F4A7C15
 unfoldable pub prefix : List ℕ
-prefix = 0x15 ∷ 0x7_c ∷ 0x4_a ∷ 0x7_f ∷ 0x_b9 ∷ 0x79 ∷ 0x37 ∷ 0x9_e ∷ []
+prefix = 0x15 ∷ 0x7C ∷ 0x4A ∷ 0x7F ∷ 0xB9 ∷ 0x79 ∷ 0x37 ∷ 0x9E ∷ []
 
 -- the hash of the bytes; as second word, the hash of the prefix and the bytes
 abbrev pub key_of : List ℕ → Key

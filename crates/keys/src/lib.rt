@@ -9,7 +9,7 @@ pub mod load;
 mod sip;
 
 // The word that stands before a message in its second hash.
-const SECOND: u64 = 0x9_e3779_b97_f4_a7_c15;
+const SECOND: u64 = 0x9E3779B97F4A7C15;
 
 // The key of a message's bytes, of any length: both hashes in one pass.
 pub fn key_of(bytes: &[u8]) -> EventKey

@@ -43,4 +43,4 @@ by_call n b =
 unfoldable pub record_of : List ℕ → Record
 record_of b =
     cond (ltb (length b) 44) (Record.Bad Fault.Short)
-    (cond (eqb (get_or b 0 0) 0x4_d) (cond (eqb (get_or b 1 0) 0x47) (by_call (get_or b 2 0) b) (Record.Bad Fault.Mark)) (Record.Bad Fault.Mark))
+    (cond (eqb (get_or b 0 0) 0x4D) (cond (eqb (get_or b 1 0) 0x47) (by_call (get_or b 2 0) b) (Record.Bad Fault.Mark)) (Record.Bad Fault.Mark))

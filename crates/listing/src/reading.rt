@@ -44,7 +44,7 @@ pub fn read(b: &[u8]) -> Record
     if b.len() < 44 {
         return Record::Bad(Fault::Short);
     }
-    if b[0] == 0x4_d {
+    if b[0] == 0x4D {
         if b[1] == 0x47 {
             return call_of(b);
         }

@@ -12,12 +12,12 @@ use Rattle.member_order.specs.Names.{name_in}
 use Rattle.member_order.proofs.NameSteps.{name-ended, name-more, name-at}
 
 -- ---- the digit of the byte read at a place
-module _ (w : List ℕ) (i b : ℕ) (p : b ≡ get_or w i 0x_ff) where
-  pub digit-ended : b ≡ 0x_ff → 0 ≡ digit (name_in w i)
-  digit-ended e = rw (name-at w i, name-ended (get_or w i 0x_ff) (drop (i + 1) w) (sym p ∙ e))
+module _ (w : List ℕ) (i b : ℕ) (p : b ≡ get_or w i 0xFF) where
+  pub digit-ended : b ≡ 0xFF → 0 ≡ digit (name_in w i)
+  digit-ended e = rw (name-at w i, name-ended (get_or w i 0xFF) (drop (i + 1) w) (sym p ∙ e))
 
-  pub digit-read : (b ≡ 0x_ff → ⊥) → b + 1 ≡ digit (name_in w i)
-  digit-read n = rw (name-at w i, name-more (get_or w i 0x_ff) (drop (i + 1) w) (λ e. n (p ∙ e)), p)
+  pub digit-read : (b ≡ 0xFF → ⊥) → b + 1 ≡ digit (name_in w i)
+  digit-read n = rw (name-at w i, name-more (get_or w i 0xFF) (drop (i + 1) w) (λ e. n (p ∙ e)), p)
 
 -- ---- what follows the digit
 pub digit-none : (x : List ℕ) → digit x ≡ 0 → x ≡ []
@@ -29,7 +29,7 @@ name-stays x e = rw (digit-none x e)
 
 pub name-past : (w : List ℕ) (i : ℕ) → (digit (name_in w i) ≡ 0 → ⊥) → name_in w (i + 1) ≡ drop 1 (name_in w i)
 name-past w i h =
-    rw (name-at w i, name-more (get_or w i 0x_ff) (drop (i + 1) w) (λ e. h (sym (digit-ended w i (get_or w i 0x_ff) refl e))))
+    rw (name-at w i, name-more (get_or w i 0xFF) (drop (i + 1) w) (λ e. h (sym (digit-ended w i (get_or w i 0xFF) refl e))))
 
 -- ---- i digits read, with y behind them
 pub record Coding (x : List ℕ) (i code : ℕ) (y : List ℕ) : Type 0 where

@@ -32,44 +32,44 @@ plain-front (b ∷ s) e = refl
 
 pub scalar-small : (n : ℕ) → is_scalar n ≡ true → n < 0x110000
 unfolding is_scalar
-scalar-small n h = go (ltb n 0x_d800) refl h
+scalar-small n h = go (ltb n 0xD800) refl h
   where
-    go : (b : Bool) → ltb n 0x_d800 ≡ b → is_scalar n ≡ true → n < 0x110000
-    go true e k = omega (arith, ltb-true n 0x_d800 e)
-    go false e k = omega (arith, within-high 0x_e000 0x_ffff n (rw e at k))
+    go : (b : Bool) → ltb n 0xD800 ≡ b → is_scalar n ≡ true → n < 0x110000
+    go true e k = omega (arith, ltb-true n 0xD800 e)
+    go false e k = omega (arith, within-high 0xE000 0xFFFF n (rw e at k))
 
 -- the two halves of a pair
 pub record Halves (high low : ℕ) : Type 0 where
-  pub high-low : 0x_d800 ≤ high
-  pub high-high : high ≤ 0x_dbff
-  pub low-low : 0x_dc00 ≤ low
-  pub low-high : low ≤ 0x_dfff
+  pub high-low : 0xD800 ≤ high
+  pub high-high : high ≤ 0xDBFF
+  pub low-low : 0xDC00 ≤ low
+  pub low-high : low ≤ 0xDFFF
 
-module _ (s : List ℕ) (e : byte_at s 0 ≡ 0x5_c) where
+module _ (s : List ℕ) (e : byte_at s 0 ≡ 0x5C) where
   pub escape-text : char_text s ≡ escape_text s
   unfolding char_text plain within
   escape-text = rw e
 
   module _ (n : ltb (escape_of (byte_at s 1)) 256 ≡ false) (m : is_scalar (hex_at s 2) ≡ false) (h : 0 < char_len s) where
-    pair-told : (is_high (hex_at s 2) && (eqb (byte_at s 6) 0x5_c && (eqb (byte_at s 7) 0x75 && is_low (hex_at s 8)))) ≡ true
+    pair-told : (is_high (hex_at s 2) && (eqb (byte_at s 6) 0x5C && (eqb (byte_at s 7) 0x75 && is_low (hex_at s 8)))) ≡ true
     unfolding char_len escape_len pair_len plain within
     pair-told = some-true _ 12 (some-picked (eqb (byte_at s 1) 0x75) _ (rw (e, n, m) at h))
 
     pub pair-halves : Halves (hex_at s 2) (hex_at s 8)
     unfolding is_high is_low
     pair-halves =
-        let high : within 0x_d800 0x_dbff (hex_at s 2) ≡ true = and-true-left (is_high (hex_at s 2)) _ pair-told in
-        let low : within 0x_dc00 0x_dfff (hex_at s 8) ≡ true =
-        and-true-right (eqb (byte_at s 7) 0x75) _ (and-true-right (eqb (byte_at s 6) 0x5_c) _ (and-true-right (is_high (hex_at s 2)) _ pair-told)) in
+        let high : within 0xD800 0xDBFF (hex_at s 2) ≡ true = and-true-left (is_high (hex_at s 2)) _ pair-told in
+        let low : within 0xDC00 0xDFFF (hex_at s 8) ≡ true =
+        and-true-right (eqb (byte_at s 7) 0x75) _ (and-true-right (eqb (byte_at s 6) 0x5C) _ (and-true-right (is_high (hex_at s 2)) _ pair-told)) in
         record {
-          high-low = within_low 0x_d800 0x_dbff _ high;
-          high-high = within-high 0x_d800 0x_dbff _ high;
-          low-low = within_low 0x_dc00 0x_dfff _ low;
-          low-high = within-high 0x_dc00 0x_dfff _ low;
+          high-low = within_low 0xD800 0xDBFF _ high;
+          high-high = within-high 0xD800 0xDBFF _ high;
+          low-low = within_low 0xDC00 0xDFFF _ low;
+          low-high = within-high 0xDC00 0xDFFF _ low;
         }
 
 -- a char that is no escape: itself, of at most four bytes
-module _ (s : List ℕ) (n : eqb (byte_at s 0) 0x5_c ≡ false) where
+module _ (s : List ℕ) (n : eqb (byte_at s 0) 0x5C ≡ false) where
   pub other_text : char_text s ≡ take (char_len s) s
   unfolding char_text char_len
   other_text = go (plain (byte_at s 0)) refl
@@ -83,7 +83,7 @@ module _ (s : List ℕ) (n : eqb (byte_at s 0) 0x5_c ≡ false) where
   other-short =
       by_cond Short (plain (byte_at s 0)) (λ e. omega arith)
       (λ e. rw n
-      (by_cond Short (within 0x_c2 0x_df (byte_at s 0) && tail (byte_at s 1)) (λ e. omega arith)
+      (by_cond Short (within 0xC2 0xDF (byte_at s 0) && tail (byte_at s 1)) (λ e. omega arith)
       (λ e. by_cond Short (first_of_three (byte_at s 0) (byte_at s 1) && tail (byte_at s 2)) (λ e. omega arith)
       (λ e. by_cond Short (first_of_four (byte_at s 0) (byte_at s 1) && (tail (byte_at s 2) && tail (byte_at s 3))) (λ e. omega arith)
       (λ e. omega arith)))))
@@ -108,7 +108,7 @@ module _ {x : List ℕ} {d : Decoded} (h : Decodes x d) where
       omega (arith, ap length h.is, length-take d.len (d.b0 ∷ d.b1 ∷ d.b2 ∷ d.b3 ∷ []))
 
 -- a char that is no escape, from the bytes that are read at its place
-module _ (t : List ℕ) (at n : ℕ) (e : eqb (byte_at (drop at t) 0) 0x5_c ≡ false) (l : n ≡ char_len (drop at t)) (p : 0 < n) where
+module _ (t : List ℕ) (at n : ℕ) (e : eqb (byte_at (drop at t) 0) 0x5C ≡ false) (l : n ≡ char_len (drop at t)) (p : 0 < n) where
   read_here : (i : ℕ) {b : ℕ} → (i < n → at + i < length t → b ≡ byte_at t (at + i)) → i < n → b ≡ byte_at (drop at t) i
   read_here i f h = f h (omega (arith, char-fits (drop at t), length-drop at t)) ∙ sym (byte-drop at t i)
 

@@ -12,38 +12,38 @@ use Rattle.member_order.specs.Names.{name_in, order_of}
 use Rattle.member_order.proofs.Before.{before-less, before_more, before-equal}
 
 -- a name by its first byte
-pub name-ended : (b : ℕ) (s : List ℕ) → b ≡ 0x_ff → up_to_ff (b ∷ s) ≡ []
+pub name-ended : (b : ℕ) (s : List ℕ) → b ≡ 0xFF → up_to_ff (b ∷ s) ≡ []
 unfolding up_to_ff
-name-ended b s e = rw (eq-eqb b 0x_ff e)
+name-ended b s e = rw (eq-eqb b 0xFF e)
 
-pub name-more : (b : ℕ) (s : List ℕ) → (b ≡ 0x_ff → ⊥) → up_to_ff (b ∷ s) ≡ b ∷ up_to_ff s
+pub name-more : (b : ℕ) (s : List ℕ) → (b ≡ 0xFF → ⊥) → up_to_ff (b ∷ s) ≡ b ∷ up_to_ff s
 unfolding up_to_ff
-name-more b s n = rw (ne_eqb b 0x_ff n)
+name-more b s n = rw (ne_eqb b 0xFF n)
 
-pub name-at : (w : List ℕ) (i : ℕ) → name_in w i ≡ up_to_ff (get_or w i 0x_ff ∷ drop (i + 1) w)
+pub name-at : (w : List ℕ) (i : ℕ) → name_in w i ≡ up_to_ff (get_or w i 0xFF ∷ drop (i + 1) w)
 unfolding up_to_ff
 name-at [] zero = refl
 name-at [] (suc i) = refl
 name-at (b ∷ w) zero = refl
 name-at (b ∷ w) (suc i) =
     let e : suc (i + 1) ≡ suc i + 1 = omega arith in
-    name-at w i ∙ ap (λ (n : ℕ). up_to_ff (get_or w i 0x_ff ∷ drop n (b ∷ w))) e
+    name-at w i ∙ ap (λ (n : ℕ). up_to_ff (get_or w i 0xFF ∷ drop n (b ∷ w))) e
 
 -- two names by their first bytes
 module _ (x y : ℕ) (s u : List ℕ) where
-  pub first_ended : x ≡ 0x_ff → (y ≡ 0x_ff → ⊥) → Order.Before ≡ order_of (up_to_ff (x ∷ s)) (up_to_ff (y ∷ u))
+  pub first_ended : x ≡ 0xFF → (y ≡ 0xFF → ⊥) → Order.Before ≡ order_of (up_to_ff (x ∷ s)) (up_to_ff (y ∷ u))
   unfolding order_of before
   first_ended e n = rw (name-ended x s e, name-more y u n)
 
-  pub second_ended : (x ≡ 0x_ff → ⊥) → y ≡ 0x_ff → Order.After ≡ order_of (up_to_ff (x ∷ s)) (up_to_ff (y ∷ u))
+  pub second_ended : (x ≡ 0xFF → ⊥) → y ≡ 0xFF → Order.After ≡ order_of (up_to_ff (x ∷ s)) (up_to_ff (y ∷ u))
   unfolding order_of before
   second_ended n e = rw (name-more x s n, name-ended y u e)
 
-  pub both-ended : x ≡ 0x_ff → y ≡ 0x_ff → Order.Same ≡ order_of (up_to_ff (x ∷ s)) (up_to_ff (y ∷ u))
+  pub both-ended : x ≡ 0xFF → y ≡ 0xFF → Order.Same ≡ order_of (up_to_ff (x ∷ s)) (up_to_ff (y ∷ u))
   unfolding order_of before
   both-ended e f = rw (name-ended x s e, name-ended y u f)
 
-  module _ (n : x ≡ 0x_ff → ⊥) (m : y ≡ 0x_ff → ⊥) where
+  module _ (n : x ≡ 0xFF → ⊥) (m : y ≡ 0xFF → ⊥) where
     pub first-less : x < y → Order.Before ≡ order_of (up_to_ff (x ∷ s)) (up_to_ff (y ∷ u))
     unfolding order_of
     first-less h = rw (name-more x s n, name-more y u m, before-less x y (up_to_ff s) (up_to_ff u) h)
@@ -59,6 +59,6 @@ module _ (x y : ℕ) (s u : List ℕ) where
         rw (name-more x s n, name-more y u m, before-equal x y (up_to_ff s) (up_to_ff u) e, before-equal y x (up_to_ff u) (up_to_ff s) (sym e))
 
 -- the bytes read at two places are the first of the names there
-pub order-read : (w : List ℕ) (i j x y : ℕ) → x ≡ get_or w i 0x_ff → y ≡ get_or w j 0x_ff
+pub order-read : (w : List ℕ) (i j x y : ℕ) → x ≡ get_or w i 0xFF → y ≡ get_or w j 0xFF
     → order_of (up_to_ff (x ∷ drop (i + 1) w)) (up_to_ff (y ∷ drop (j + 1) w)) ≡ order_of (name_in w i) (name_in w j)
 order-read w i j x y p q = rw (p, q, name-at w i, name-at w j)

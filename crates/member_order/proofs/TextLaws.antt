@@ -19,24 +19,24 @@ use Rattle.rules.proofs.Tests.{and-true-left}
 use Rattle.member_order.specs.Names.{escape_text, char_text, text_from, chars_text}
 
 -- a char of the grammar stands for what char_text reads
-two-text : (a b : ℕ) (r : List ℕ) → (within 0x_c2 0x_df a && tail b) ≡ true → char_text (a ∷ b ∷ r) ≡ a ∷ b ∷ []
+two-text : (a b : ℕ) (r : List ℕ) → (within 0xC2 0xDF a && tail b) ≡ true → char_text (a ∷ b ∷ r) ≡ a ∷ b ∷ []
 unfolding char_text utf8_len
 two-text a b r h =
-    let l = within_low 0x_c2 0x_df a (and-true-left (within 0x_c2 0x_df a) (tail b) h) in
-    rw (plain-above a (omega arith), ne_eqb a 0x5_c (λ e. omega arith), h)
+    let l = within_low 0xC2 0xDF a (and-true-left (within 0xC2 0xDF a) (tail b) h) in
+    rw (plain-above a (omega arith), ne_eqb a 0x5C (λ e. omega arith), h)
 
 three-text : (a b c : ℕ) (r : List ℕ) → (first_of_three a b && tail c) ≡ true → char_text (a ∷ b ∷ c ∷ r) ≡ a ∷ b ∷ c ∷ []
 unfolding char_text utf8_len
 three-text a b c r h =
     let l = three-first a b (and-true-left (first_of_three a b) (tail c) h) in
-    rw (plain-above a (omega arith), ne_eqb a 0x5_c (λ e. omega arith), outside_high 0x_c2 0x_df a (omega arith), h)
+    rw (plain-above a (omega arith), ne_eqb a 0x5C (λ e. omega arith), outside_high 0xC2 0xDF a (omega arith), h)
 
 four-text :
     (a b c d : ℕ) (r : List ℕ) → (first_of_four a b && (tail c && tail d)) ≡ true → char_text (a ∷ b ∷ c ∷ d ∷ r) ≡ a ∷ b ∷ c ∷ d ∷ []
 unfolding char_text utf8_len
 four-text a b c d r h =
     let l = four-first a b (and-true-left (first_of_four a b) (tail c && tail d) h) in
-    rw (plain-above a (omega arith), ne_eqb a 0x5_c (λ e. omega arith), outside_high 0x_c2 0x_df a (omega arith), above-three a b l, h)
+    rw (plain-above a (omega arith), ne_eqb a 0x5C (λ e. omega arith), outside_high 0xC2 0xDF a (omega arith), above-three a b l, h)
 
 pub char-text : {s x r : List ℕ} → Char s x r → char_text s ≡ x
 unfolding char_text escape_text plain within escape_of

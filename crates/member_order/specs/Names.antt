@@ -15,7 +15,7 @@ escape_text s =
     (utf8 (joined (hex_at s 2) (hex_at s 8))))
 
 unfoldable pub char_text : List ℕ → List ℕ
-char_text s = cond (plain (byte_at s 0)) (byte_at s 0 ∷ []) (cond (eqb (byte_at s 0) 0x5_c) (escape_text s) (take (utf8_len s) s))
+char_text s = cond (plain (byte_at s 0)) (byte_at s 0 ∷ []) (cond (eqb (byte_at s 0) 0x5C) (escape_text s) (take (utf8_len s) s))
 
 -- of a string, up to its closing mark; n bounds how many chars are read
 unfoldable pub text_from : ℕ → List ℕ → List ℕ

@@ -17,7 +17,7 @@ fn digit(names: &[u8], at: usize) -> u64
     ensures { (result ≡ digit (name_in names.now at)) × (result < 256) }
 {
     let b = byte_in(names, at);
-    if b == 0x_ff {
+    if b == 0xFF {
         return 0;
     }
     wide(b) + 1

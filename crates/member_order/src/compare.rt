@@ -13,9 +13,9 @@ pub enum Order {
 
 // The byte at a place, FF behind the last.
 pub fn byte_in(names: &[u8], at: usize) -> u8
-    ensures { result ≡ get_or names.now at 0x_ff }
+    ensures { result ≡ get_or names.now at 0xFF }
 {
-    if at < names.len() { names[at] } else { 0x_ff }
+    if at < names.len() { names[at] } else { 0xFF }
 }
 
 // Two names by their first bytes, which are not the same. FF is the end of a name.
@@ -23,10 +23,10 @@ fn order_of(x: u8, y: u8) -> Order
     requires { x ≡ y → ⊥ }
     ensures { (s u : List ℕ) → result ≡ order_of (up_to_ff (x ∷ s)) (up_to_ff (y ∷ u)) }
 {
-    if x == 0x_ff {
+    if x == 0xFF {
         return Order::Before;
     }
-    if y == 0x_ff {
+    if y == 0xFF {
         return Order::After;
     }
     if x < y { Order::Before } else { Order::After }
@@ -44,7 +44,7 @@ pub fn compare(names: &[u8], p: usize, q: usize) -> Order
         if x != y {
             return order_of(x, y);
         }
-        if x == 0x_ff {
+        if x == 0xFF {
             return Order::Same;
         }
         i += 1;

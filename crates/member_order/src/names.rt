@@ -41,7 +41,7 @@ fn utf8_of(n: u32) -> Decoded
     }
     if n < 0x800 {
         return Decoded {
-            b0: (0x_c0 + n / 64) as u8,
+            b0: (0xC0 + n / 64) as u8,
             b1: (0x80 + n % 64) as u8,
             b2: 0,
             b3: 0,
@@ -50,7 +50,7 @@ fn utf8_of(n: u32) -> Decoded
     }
     if n < 0x10000 {
         return Decoded {
-            b0: (0x_e0 + n / 4096) as u8,
+            b0: (0xE0 + n / 4096) as u8,
             b1: (0x80 + n / 64 % 64) as u8,
             b2: (0x80 + n % 64) as u8,
             b3: 0,
@@ -58,7 +58,7 @@ fn utf8_of(n: u32) -> Decoded
         };
     }
     Decoded {
-        b0: (0x_f0 + n / 262144) as u8,
+        b0: (0xF0 + n / 262144) as u8,
         b1: (0x80 + n / 4096 % 64) as u8,
         b2: (0x80 + n / 64 % 64) as u8,
         b3: (0x80 + n % 64) as u8,
@@ -68,7 +68,7 @@ fn utf8_of(n: u32) -> Decoded
 
 // An escape, which stands at the place.
 fn decode_escape(text: &[u8], at: usize) -> Decoded
-    requires { (at ≤ longest) × (byte_at (drop at text.now) 0 ≡ 0x5_c) × (0 < char_len (drop at text.now)) }
+    requires { (at ≤ longest) × (byte_at (drop at text.now) 0 ≡ 0x5C) × (0 < char_len (drop at text.now)) }
     ensures { Decodes (escape_text (drop at text.now)) result }
 {
     let b = escape_of(byte(text, at + 1));
@@ -80,7 +80,7 @@ fn decode_escape(text: &[u8], at: usize) -> Decoded
         return utf8_of(high);
     }
     let low = hex_at(text, at + 8);
-    utf8_of(0x10000 + (high - 0x_d800) * 0x400 + (low - 0x_dc00))
+    utf8_of(0x10000 + (high - 0xD800) * 0x400 + (low - 0xDC00))
 }
 
 // The byte i places behind a place, 0 from n on.
@@ -102,7 +102,7 @@ pub fn decode(text: &[u8], at: usize, n: usize) -> Decoded
     requires { (at ≤ longest) × (n ≡ char_len (drop at text.now)) × (0 < n) }
     ensures { Decodes (char_text (drop at text.now)) result }
 {
-    if byte(text, at) == 0x5_c {
+    if byte(text, at) == 0x5C {
         return decode_escape(text, at);
     }
     let b0 = byte_of(text, at, 0, n);

@@ -84,7 +84,7 @@ pub record Progress (R : List ℕ → Items → List ℕ → Type 0)
   pub behind : at + count < i
   pub inside : i ≤ length t
 
-module _ {t ends places merged names out : List ℕ} {at top pos : ℕ} (w : Writable t ends places merged names out at top pos) (b : byte_at t at ≡ 0x5_b) where
+module _ {t ends places merged names out : List ℕ} {at top pos : ℕ} (w : Writable t ends places merged names out at top pos) (b : byte_at t at ≡ 0x5B) where
   array-front : ArrayRest (drop (at + 1) t) w.spans.value (drop w.end t)
   array-front = rw behind-here at (val-array w.spans.is (byte-here t at ∙ b))
 
@@ -96,12 +96,12 @@ module _ {t ends places merged names out : List ℕ} {at top pos : ℕ} (w : Wri
       omega (arith, w.room_out)
 
   module _ (i : ℕ) (k : Skips t (at + 1) i) where
-    pub array-none : (out' : List ℕ) → byte_at t i ≡ 0x5_d → out' ≡ written pos (4 ∷ little_endian 8 0) out
+    pub array-none : (out' : List ℕ) → byte_at t i ≡ 0x5D → out' ≡ written pos (4 ∷ little_endian 8 0) out
         → Wrote t ends places places out out' at top pos (record { at = i + 1; pos = pos + 9 })
     unfolding canonical content contents canonical_items items little_endian
     array-none out' h o =
-        let q = byte-stands t i 0x5_d h (omega arith) in
-        let z : Ws (drop (at + 1) t) (0x5_d ∷ drop (i + 1) t) = rw q.0 at (skipped t (at + 1) i k) in
+        let q = byte-stands t i 0x5D h (omega arith) in
+        let z : Ws (drop (at + 1) t) (0x5D ∷ drop (i + 1) t) = rw q.0 at (skipped t (at + 1) i k) in
         let e = array-ends array-front z in
         let v : Val (drop at t) (array no_items) (drop (i + 1) t) = rw (e.0, e.1) at w.spans.is in
         let s : Spans t at (i + 1) = record {
@@ -113,9 +113,9 @@ module _ {t ends places merged names out : List ℕ} {at top pos : ℕ} (w : Wri
         } in
         record { known = w.known; kept = refl; spans = s; bytes = o; next = refl }
 
-    pub array-first : (byte_at t i ≡ 0x5_d → ⊥) → Progress ItemsAt t ends places merged names out ends places merged names out at top pos i (pos + 9) 0
+    pub array-first : (byte_at t i ≡ 0x5D → ⊥) → Progress ItemsAt t ends places merged names out ends places merged names out at top pos i (pos + 9) 0
     array-first h =
-        let n : eqb (byte_at (drop i t) 0) 0x5_d ≡ false = ne_eqb _ 0x5_d (λ e. h (sym (byte-here t i) ∙ e)) in
+        let n : eqb (byte_at (drop i t) 0) 0x5D ≡ false = ne_eqb _ 0x5D (λ e. h (sym (byte-here t i) ∙ e)) in
         let a = array-items array-front (skipped t (at + 1) i k) (no-more t (at + 1) i k) n in
         record {
           whole = w;
@@ -216,11 +216,11 @@ module _ {t ends₀ places₀ merged₀ names₀ out₀ ends places merged names
   -- behind an item: a comma and another, or the end
   module _ (p : Progress MoreItems t ends₀ places₀ merged₀ names₀ out₀ ends places merged names out at top pos i end count) where
     module _ (j : ℕ) (k : Skips t i j) where
-      pub items_more : byte_at t j ≡ 0x2_c → (n : ℕ) → Skips t (j + 1) n
+      pub items_more : byte_at t j ≡ 0x2C → (n : ℕ) → Skips t (j + 1) n
           → Progress ItemsAt t ends₀ places₀ merged₀ names₀ out₀ ends places merged names out at top pos n end count
       items_more h n l =
-          let q = byte-stands t j 0x2_c h (omega arith) in
-          let z : Ws (drop i t) (0x2_c ∷ drop (j + 1) t) = rw q.0 at (skipped t i j k) in
+          let q = byte-stands t j 0x2C h (omega arith) in
+          let z : Ws (drop i t) (0x2C ∷ drop (j + 1) t) = rw q.0 at (skipped t i j k) in
           record {
             whole = p.whole;
             known = p.known;
@@ -243,15 +243,15 @@ module _ {t ends₀ places₀ merged₀ names₀ out₀ ends places merged names
             inside = l.2;
           }
 
-      pub items-last : (byte_at t j ≡ 0x2_c → ⊥) → {out' : List ℕ} → out' ≡ written pos (4 ∷ little_endian 8 count) out
+      pub items-last : (byte_at t j ≡ 0x2C → ⊥) → {out' : List ℕ} → out' ≡ written pos (4 ∷ little_endian 8 count) out
           → Wrote t ends places₀ places out₀ out' at top pos (record { at = j + 1; pos = end })
       unfolding little_endian contents canonical_items items
       items-last h {out'} o =
           let w = p.whole in
-          let c : eqb (byte_at (drop j t) 0) 0x2_c ≡ false = ne_eqb _ 0x2_c (λ e. h (sym (byte-here t j) ∙ e)) in
-          let f : eqb (byte_at (drop j t) 0) 0x5_d ≡ true = rw c at (items-front p.stands (skipped t i j k) (no-more t i j k)) in
-          let q = byte-stands t j 0x5_d (sym (byte-here t j) ∙ eqb-true _ 0x5_d f) (omega arith) in
-          let z : Ws (drop i t) (0x5_d ∷ drop (j + 1) t) = rw q.0 at (skipped t i j k) in
+          let c : eqb (byte_at (drop j t) 0) 0x2C ≡ false = ne_eqb _ 0x2C (λ e. h (sym (byte-here t j) ∙ e)) in
+          let f : eqb (byte_at (drop j t) 0) 0x5D ≡ true = rw c at (items-front p.stands (skipped t i j k) (no-more t i j k)) in
+          let q = byte-stands t j 0x5D (sym (byte-here t j) ∙ eqb-true _ 0x5D f) (omega arith) in
+          let z : Ws (drop i t) (0x5D ∷ drop (j + 1) t) = rw q.0 at (skipped t i j k) in
           let e = items-end p.stands z in
           let d : canonical_items (contents p.all) ≡ p.done =
           p.rest ∙ ap (λ (l : Items). p.done ++ canonical_items (contents l)) e.0 ∙ append-nil p.done in

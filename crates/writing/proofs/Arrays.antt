@@ -42,19 +42,19 @@ pub record InArray (t : List ℕ) (at i : ℕ) : Type 0 where
   pub fits : i ≤ length t
 
 -- from the bracket on, behind the ws
-module _ (t : List ℕ) (at e i b : ℕ) (s : Spans t at e) (h : byte_at t at ≡ 0x5_b) (k : Skips t (at + 1) i) (q : b ≡ byte_at t i) where
+module _ (t : List ℕ) (at e i b : ℕ) (s : Spans t at e) (h : byte_at t at ≡ 0x5B) (k : Skips t (at + 1) i) (q : b ≡ byte_at t i) where
   rest : ArrayRest (drop (at + 1) t) s.value (drop e t)
   rest = rw behind-here at (val-array s.is (byte-here t at ∙ h))
 
-  pub array-none : b ≡ 0x5_d → Spans t at (i + 1)
+  pub array-none : b ≡ 0x5D → Spans t at (i + 1)
   array-none z =
-      let f = byte-stands t i 0x5_d (sym q ∙ z) (omega arith) in
+      let f = byte-stands t i 0x5D (sym q ∙ z) (omega arith) in
       let w = subst (λ (l : List ℕ). Ws (drop (at + 1) t) l) f.0 (skipped t (at + 1) i k) in
       spans-to t at e (i + 1) s (one_place t e (i + 1) (array-ends rest w).1 s.fits f.1)
 
-  pub array-first : (b ≡ 0x5_d → ⊥) → InArray t at i
+  pub array-first : (b ≡ 0x5D → ⊥) → InArray t at i
   array-first z =
-      let n = ne_eqb b 0x5_d z in
+      let n = ne_eqb b 0x5D z in
       let f = array-items rest (skipped t (at + 1) i k) (no-more t (at + 1) i k) (rw (front-byte t i b q) n) in
       record { end = e; spans = s; items = f.0; lie = f.2; on = omega arith; fits = k.2 }
 
@@ -70,20 +70,20 @@ module _ (t : List ℕ) (at i n j b : ℕ) (a : InArray t at i) (s : Spans t i n
       let e = spans-one t i i p.0 n p.1 s refl in
       (p.2, subst (λ (m : ℕ). MoreItems (drop m t) p.2 (drop a.end t)) e p.3)
 
-  closed : (b ≡ 0x2_c → ⊥) → b ≡ 0x5_d
+  closed : (b ≡ 0x2C → ⊥) → b ≡ 0x5D
   closed z =
       let f = items-front more.1 (skipped t n j k) (no-more t n j k) in
-      eqb-true b 0x5_d (rw (front-byte t j b q, ne_eqb b 0x2_c z) at f)
+      eqb-true b 0x5D (rw (front-byte t j b q, ne_eqb b 0x2C z) at f)
 
-  pub array-over : (b ≡ 0x2_c → ⊥) → Spans t at (j + 1)
+  pub array-over : (b ≡ 0x2C → ⊥) → Spans t at (j + 1)
   array-over z =
-      let f = byte-stands t j 0x5_d (sym q ∙ closed z) (omega arith) in
+      let f = byte-stands t j 0x5D (sym q ∙ closed z) (omega arith) in
       let w = subst (λ (l : List ℕ). Ws (drop n t) l) f.0 (skipped t n j k) in
       spans-to t at a.end (j + 1) a.spans (one_place t a.end (j + 1) (items-end more.1 w).1 a.spans.fits f.1)
 
-  pub array-next : b ≡ 0x2_c → (m : ℕ) → Skips t (j + 1) m → InArray t at m
+  pub array-next : b ≡ 0x2C → (m : ℕ) → Skips t (j + 1) m → InArray t at m
   array-next z m y =
-      let f = byte-stands t j 0x2_c (sym q ∙ z) (omega arith) in
+      let f = byte-stands t j 0x2C (sym q ∙ z) (omega arith) in
       let w = subst (λ (l : List ℕ). Ws (drop n t) l) f.0 (skipped t n j k) in
       let r = items-next more.1 w (skipped t (j + 1) m y) (no-more t (j + 1) m y) in
       record { end = a.end; spans = a.spans; items = more.0; lie = r; on = omega (arith, a.on, s.on); fits = y.2 }

@@ -44,8 +44,8 @@ value-to :
     (t : List ℕ) (at e n : ℕ) (ms : Members) (s : Spans t at e) → s.value ≡ object ms → e ≡ n → (z : Spans t at n) × (z.value ≡ object ms)
 value-to t at e n ms s h q = subst (λ (m : ℕ). (z : Spans t at m) × (z.value ≡ object ms)) q (s, h)
 
-module _ (t places names : List ℕ) (at top e i b : ℕ) (s : Spans t at e) (h : byte_at t at ≡ 0x7_b) (k : Skips t (at + 1) i) (q : b ≡ byte_at t i) where
-  pub gathered_none : (ends : List ℕ) → Ends t ends → b ≡ 0x7_d → Gathered t ends places places names at top (record { count = 0; end = i + 1 })
+module _ (t places names : List ℕ) (at top e i b : ℕ) (s : Spans t at e) (h : byte_at t at ≡ 0x7B) (k : Skips t (at + 1) i) (q : b ≡ byte_at t i) where
+  pub gathered_none : (ends : List ℕ) → Ends t ends → b ≡ 0x7D → Gathered t ends places places names at top (record { count = 0; end = i + 1 })
   unfolding laid
   gathered_none ends y z =
       let o = object-none t at e i b s h k q z in
@@ -61,7 +61,7 @@ module _ (t places names : List ℕ) (at top e i b : ℕ) (s : Spans t at e) (h 
         named = noted-named t names 0 [] tt;
       }
 
-  pub gathering-starts : 4 * top + (e - at) ≤ 4 * length places → (b ≡ 0x7_d → ⊥) → Gathering t places places names at top i 0
+  pub gathering-starts : 4 * top + (e - at) ≤ 4 * length places → (b ≡ 0x7D → ⊥) → Gathering t places places names at top i 0
   gathering-starts r z =
       let o = object-first t at e i b s h k q z in
       record {
@@ -102,13 +102,13 @@ module _ (t p₀ p w : List ℕ) (at top i count : ℕ) (g : Gathering t p₀ p 
       rw (run_more p top count i place_inside, append_assoc) (g.lies n (i ∷ qs) h m)
 
   module _ (n j b : ℕ) (s : MemberSpans t i n) (k : Skips t n j) (q : b ≡ byte_at t j) (w' : List ℕ)
-      (wrote : w' ≡ written i (name_at t i ++ 0x_ff ∷ []) w) (wide : length t ≤ length w) where
+      (wrote : w' ≡ written i (name_at t i ++ 0xFF ∷ []) w) (wide : length t ≤ length w) where
     noted-on : (m : ℕ) → n ≤ m → Noted t w' m (run after top (count + 1))
     unfolding after
     noted-on m h = rw (wrote, run_more p top count i place_inside) (noted_more t w i n m s wide h (run p top count) g.noted)
 
     pub gathered-all :
-        (ends : List ℕ) → Ends t ends → (b ≡ 0x2_c → ⊥) →
+        (ends : List ℕ) → Ends t ends → (b ≡ 0x2C → ⊥) →
         Gathered t ends p₀ (set p (top + count) i) w' at top (record { count = count + 1; end = j + 1 })
     unfolding laid after
     gathered-all ends y z =
@@ -131,7 +131,7 @@ module _ (t p₀ p w : List ℕ) (at top i count : ℕ) (g : Gathering t p₀ p 
           named = noted-named t w' n (run after top (count + 1)) (noted-on n (omega arith));
         }
 
-    pub gathering-goes-on : b ≡ 0x2_c → (m : ℕ) → Skips t (j + 1) m → Gathering t p₀ (set p (top + count) i) w' at top m (count + 1)
+    pub gathering-goes-on : b ≡ 0x2C → (m : ℕ) → Skips t (j + 1) m → Gathering t p₀ (set p (top + count) i) w' at top m (count + 1)
     unfolding after
     gathering-goes-on z m y =
         let f = here in

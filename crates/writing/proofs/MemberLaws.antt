@@ -93,7 +93,7 @@ pub record MemberAt (t : List ℕ) (room : ℕ) (qs : List ℕ) (ms : Members) (
   pub value : Value
   pub holds : Holds t room (get_or qs i 0) name value
   pub rest : rest_members i ms ≡ member name value (rest_members (i + 1) ms)
-  pub next : canonical_members (first_members (i + 1) ms) ≡ canonical_members (first_members i ms) ++ (name ++ 0x_ff ∷ canonical value)
+  pub next : canonical_members (first_members (i + 1) ms) ≡ canonical_members (first_members i ms) ++ (name ++ 0xFF ∷ canonical value)
 
 module _ {t : List ℕ} {room : ℕ} where
   pub lie-length : {qs : List ℕ} {ms : Members} → Lie t room qs ms → length qs ≡ members ms

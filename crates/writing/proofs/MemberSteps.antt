@@ -79,7 +79,7 @@ module _ {t ends places merged names out : List ℕ} {at top pos : ℕ} (w : Wri
             let x = w.spans.name in
             let v = o.spans.value in
             let y = canonical (content v) in
-            let z : List ℕ = 0x_ff ∷ [] in
+            let z : List ℕ = 0xFF ∷ [] in
             let f : out' ≡ written pos (x ++ z) out = rw (name-text w.spans) at p.bytes in
             let g : r.pos ≡ pos + length (x ++ z) = omega (arith, p.next, ap length (name-text w.spans), length-append x z) in
             let h : out'' ≡ written (pos + length (x ++ z)) y (written pos (x ++ z) out) = rw (f, g) at o.bytes in

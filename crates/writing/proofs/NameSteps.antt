@@ -23,7 +23,7 @@ record NameParts (s x r : List ℕ) : Type 0 where
   behind : List ℕ
   colon : List ℕ
   chars : Chars (drop 1 s) x behind
-  gap : Ws behind (0x3_a ∷ colon)
+  gap : Ws behind (0x3A ∷ colon)
   more : Ws colon r
 
 name-parts : {s x r : List ℕ} → Name s x r → NameParts s x r
@@ -58,12 +58,12 @@ module _ {t : List ℕ} {at e : ℕ} (m : MemberSpans t at e) where
     behind-name = p parts.behind (rw behind-here at (chars_rest_lem parts.chars))
 
     module _ (j : ℕ) (k : Skips t r j) where
-      colon-left : drop j t ≡ 0x3_a ∷ parts.colon
+      colon-left : drop j t ≡ 0x3A ∷ parts.colon
       unfolding is_ws
-      colon-left = k.0 ∙ ap skip_ws behind-name ∙ ws-skips parts.gap ∙ skip-front (0x3_a ∷ parts.colon) refl
+      colon-left = k.0 ∙ ap skip_ws behind-name ∙ ws-skips parts.gap ∙ skip-front (0x3A ∷ parts.colon) refl
 
-      colon-stands : (drop j t ≡ 0x3_a ∷ drop (j + 1) t) × (j + 1 ≤ length t)
-      colon-stands = byte-stands t j 0x3_a (sym (byte-here t j) ∙ ap (λ (l : List ℕ). byte_at l 0) colon-left) (omega arith)
+      colon-stands : (drop j t ≡ 0x3A ∷ drop (j + 1) t) × (j + 1 ≤ length t)
+      colon-stands = byte-stands t j 0x3A (sym (byte-here t j) ∙ ap (λ (l : List ℕ). byte_at l 0) colon-left) (omega arith)
 
       pub colon-inside : j + 1 ≤ length t
       colon-inside = colon-stands.1

@@ -20,7 +20,7 @@ use Rattle.writing.proofs.NameSteps.{name-text, name-fits}
 ff-front : (s y z : List ℕ) → length (up_to_ff (s ++ z)) < length s → up_to_ff (s ++ y) ≡ up_to_ff (s ++ z)
 unfolding up_to_ff
 ff-front [] y z h = absurd (omega arith)
-ff-front (b ∷ s) y z h = go (eqb b 0x_ff) h (ff-front s y z)
+ff-front (b ∷ s) y z h = go (eqb b 0xFF) h (ff-front s y z)
   where
     go : (c : Bool) → length (cond c [] (b ∷ up_to_ff (s ++ z))) < length (b ∷ s)
         → (length (up_to_ff (s ++ z)) < length s → up_to_ff (s ++ y) ≡ up_to_ff (s ++ z))
@@ -29,10 +29,10 @@ ff-front (b ∷ s) y z h = go (eqb b 0x_ff) h (ff-front s y z)
     go false k r = ap (λ (l : List ℕ). b ∷ l) (r (omega arith))
 
 -- a name that is written is read
-name_back : (i : ℕ) (x w : List ℕ) → i ≤ length w → Below x → name_in (written i (x ++ 0x_ff ∷ []) w) i ≡ x
+name_back : (i : ℕ) (x w : List ℕ) → i ≤ length w → Below x → name_in (written i (x ++ 0xFF ∷ []) w) i ≡ x
 unfolding written
 name_back i x w h k =
-    let z : List ℕ = 0x_ff ∷ [] in
+    let z : List ℕ = 0xFF ∷ [] in
     let r = drop (i + length (x ++ z)) w in
     let l : length (take i w) ≡ i = simp length-take (omega arith) in
     ap up_to_ff (drop_at (take i w) ((x ++ z) ++ r) i l ∙ append_assoc x z r) ∙ ff-ends x r k
@@ -64,11 +64,11 @@ module _ (t w : List ℕ) (i e j : ℕ) (m : MemberSpans t i e) (room : length t
   inside : i ≤ length w
   inside = omega (arith, m.behind, m.spans.on, m.spans.fits)
 
-  pub noted_more : (qs : List ℕ) → Noted t w i qs → Noted t (written i (name_at t i ++ 0x_ff ∷ []) w) j (qs ++ (i ∷ []))
+  pub noted_more : (qs : List ℕ) → Noted t w i qs → Noted t (written i (name_at t i ++ 0xFF ∷ []) w) j (qs ++ (i ∷ []))
   noted_more [] n =
       let b : Below (name_at t i) = rw (name-text m) (name_below m.named) in
       (name_back i (name_at t i) w inside b, omega (arith, name-fits m, m.spans.on), tt)
   noted_more (q ∷ qs) n =
       let l : q + length (name_in w q) < i = omega (arith, ap length n.0, n.1) in
-      let s = name-stays i q (name_at t i ++ 0x_ff ∷ []) w inside l in
+      let s = name-stays i q (name_at t i ++ 0xFF ∷ []) w inside l in
       (s ∙ n.0, omega (arith, n.1, m.behind, m.spans.on), noted_more qs n.2)

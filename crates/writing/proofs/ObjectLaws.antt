@@ -159,7 +159,7 @@ module _
       stands : Holds t room q held.name held.value
       stands = subst (λ (x : ℕ). Holds t room x held.name held.value) (sym place_is) held.holds
 
-      stands-bytes : member_bytes stands.spans.name stands.spans.spans.value ≡ held.name ++ 0x_ff ∷ canonical held.value
+      stands-bytes : member_bytes stands.spans.name stands.spans.spans.value ≡ held.name ++ 0xFF ∷ canonical held.value
       stands-bytes = rw (stands.name, stands.content_is)
 
       next-bytes :
@@ -175,7 +175,7 @@ module _
         let e = (p.bytes s.room s.all s.lie).1 in
         let x = simp length-append at (ap length (canonical-split (i + 1) s.all)) in
         let y = simp length-append at (ap length (next-bytes s.room s.all s.lie)) in
-        let z = length-append m.name (0x_ff ∷ canonical (content m.spans.value)) in
+        let z = length-append m.name (0xFF ∷ canonical (content m.spans.value)) in
         record {
           short = a;
           known = p.known;

@@ -62,20 +62,20 @@ pub record InObject (t : List ℕ) (at e i : ℕ) (ms : Members) : Type 0 where
   pub fits : i ≤ length t
 
 -- from the brace on, behind the ws
-module _ (t : List ℕ) (at e i b : ℕ) (s : Spans t at e) (h : byte_at t at ≡ 0x7_b) (k : Skips t (at + 1) i) (q : b ≡ byte_at t i) where
+module _ (t : List ℕ) (at e i b : ℕ) (s : Spans t at e) (h : byte_at t at ≡ 0x7B) (k : Skips t (at + 1) i) (q : b ≡ byte_at t i) where
   rest : ObjectRest (drop (at + 1) t) s.value (drop e t)
   rest = rw behind-here at (val-object s.is (byte-here t at ∙ h))
 
-  pub object-none : b ≡ 0x7_d → (s.value ≡ object no_members) × (e ≡ i + 1)
+  pub object-none : b ≡ 0x7D → (s.value ≡ object no_members) × (e ≡ i + 1)
   object-none z =
-      let f = byte-stands t i 0x7_d (sym q ∙ z) (omega arith) in
+      let f = byte-stands t i 0x7D (sym q ∙ z) (omega arith) in
       let w = subst (λ (l : List ℕ). Ws (drop (at + 1) t) l) f.0 (skipped t (at + 1) i k) in
       let o = object-ends rest w in
       (o.0, one_place t e (i + 1) o.1 s.fits f.1)
 
-  pub object-first : (b ≡ 0x7_d → ⊥) → (ms : Members) × (s.value ≡ object ms) × InObject t at e i ms
+  pub object-first : (b ≡ 0x7D → ⊥) → (ms : Members) × (s.value ≡ object ms) × InObject t at e i ms
   object-first z =
-      let n = ne_eqb b 0x7_d z in
+      let n = ne_eqb b 0x7D z in
       let f = object-members rest (skipped t (at + 1) i k) (no-more t (at + 1) i k) (rw (front-byte t i b q) n) in
       (f.0, f.1, record { lie = f.2; on = omega arith; fits = k.2 })
 
@@ -94,21 +94,21 @@ module _ (t : List ℕ) (at e i n j b : ℕ) (ms : Members) (f : First t i ms (d
       let p = member-one t i f.end n f.spans s in
       subst (λ (m : ℕ). MoreMembers (drop m t) f.rest (drop e t)) p f.more
 
-  closed : (b ≡ 0x2_c → ⊥) → b ≡ 0x7_d
+  closed : (b ≡ 0x2C → ⊥) → b ≡ 0x7D
   closed z =
       let g = members-front more (skipped t n j k) (no-more t n j k) in
-      eqb-true b 0x7_d (rw (front-byte t j b q, ne_eqb b 0x2_c z) at g)
+      eqb-true b 0x7D (rw (front-byte t j b q, ne_eqb b 0x2C z) at g)
 
-  pub object-over : e ≤ length t → (b ≡ 0x2_c → ⊥) → (f.rest ≡ no_members) × (e ≡ j + 1)
+  pub object-over : e ≤ length t → (b ≡ 0x2C → ⊥) → (f.rest ≡ no_members) × (e ≡ j + 1)
   object-over h z =
-      let g = byte-stands t j 0x7_d (sym q ∙ closed z) (omega arith) in
+      let g = byte-stands t j 0x7D (sym q ∙ closed z) (omega arith) in
       let w = subst (λ (l : List ℕ). Ws (drop n t) l) g.0 (skipped t n j k) in
       let o = members-end more w in
       (o.0, one_place t e (j + 1) o.1 h g.1)
 
-  pub object-next : at < i → b ≡ 0x2_c → (m : ℕ) → Skips t (j + 1) m → InObject t at e m f.rest
+  pub object-next : at < i → b ≡ 0x2C → (m : ℕ) → Skips t (j + 1) m → InObject t at e m f.rest
   object-next h z m y =
-      let g = byte-stands t j 0x2_c (sym q ∙ z) (omega arith) in
+      let g = byte-stands t j 0x2C (sym q ∙ z) (omega arith) in
       let w = subst (λ (l : List ℕ). Ws (drop n t) l) g.0 (skipped t n j k) in
       let r = members-next more w (skipped t (j + 1) m y) (no-more t (j + 1) m y) in
       record { lie = r; on = omega (arith, s.behind, s.spans.on); fits = y.2 }

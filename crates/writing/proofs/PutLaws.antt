@@ -80,14 +80,14 @@ module _ {t : List ℕ} {at : ℕ} {o o' : List ℕ} {pos i end : ℕ} (p : Part
   -- no char follows: FF
   pub partly-ends :
       chars_text (drop i t) ≡ [] → (e : ℕ) → e ≤ length t → ((s : List ℕ) → chars_rest (drop i t) ≡ some s → drop e t ≡ s) →
-      PutString t at o (set o' end 0x_ff) pos (record { at = e; pos = end + 1 })
+      PutString t at o (set o' end 0xFF) pos (record { at = e; pos = end + 1 })
   partly-ends z e fits f =
       let x : chars_text (drop at t) ≡ p.front = p.text ∙ (ap (λ (y : List ℕ). p.front ++ y) z ∙ append-nil p.front) in
       let l = partly-room in
       record {
         bytes =
-            ap (λ (w : List ℕ). set w end 0x_ff) p.bytes
-            ∙ (written_next pos p.front o end 0x_ff p.next (omega arith) ∙ ap (λ (y : List ℕ). written pos (y ++ (0x_ff ∷ [])) o) (sym x));
+            ap (λ (w : List ℕ). set w end 0xFF) p.bytes
+            ∙ (written_next pos p.front o end 0xFF p.next (omega arith) ∙ ap (λ (y : List ℕ). written pos (y ++ (0xFF ∷ [])) o) (sym x));
         next = omega (arith, p.next, ap length x);
         fits = fits;
         end = λ s k. f s (sym p.rest ∙ k);
@@ -135,7 +135,7 @@ module _ {t : List ℕ} {at : ℕ} {o o' : List ℕ} {pos i end : ℕ} (p : Part
         rw q.at_is (partly-on h m refl g (q.some g).0 (q.some g).1)
 
     -- no char stood there: FF
-    pub partly-stuck : r.at ≡ i → PutString t at o (set o'' end 0x_ff) pos (record { at = i; pos = end + 1 })
+    pub partly-stuck : r.at ≡ i → PutString t at o (set o'' end 0xFF) pos (record { at = i; pos = end + 1 })
     partly-stuck k =
         let z : char_len (drop i t) ≡ 0 = omega (arith, q.at_is) in
         rw (q.none z).0

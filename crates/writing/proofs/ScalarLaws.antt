@@ -38,14 +38,14 @@ up-to-place t at end h k =
     rw e
 
 -- the canonical bytes of a number and of a string: a tag, its text and FF
-tagged-length : (tag : ℕ) (x : List ℕ) → length (tag ∷ (x ++ 0x_ff ∷ [])) ≡ length x + 2
-tagged-length tag x = omega (arith, length-append x (0x_ff ∷ []))
+tagged-length : (tag : ℕ) (x : List ℕ) → length (tag ∷ (x ++ 0xFF ∷ [])) ≡ length x + 2
+tagged-length tag x = omega (arith, length-append x (0xFF ∷ []))
 
-canonical-number : {v : Value} {x : List ℕ} → v ≡ number x → canonical (content v) ≡ 2 ∷ (x ++ 0x_ff ∷ [])
+canonical-number : {v : Value} {x : List ℕ} → v ≡ number x → canonical (content v) ≡ 2 ∷ (x ++ 0xFF ∷ [])
 unfolding canonical content
 canonical-number e = rw e
 
-canonical-string : {v : Value} {x : List ℕ} → v ≡ string x → canonical (content v) ≡ 3 ∷ (x ++ 0x_ff ∷ [])
+canonical-string : {v : Value} {x : List ℕ} → v ≡ string x → canonical (content v) ≡ 3 ∷ (x ++ 0xFF ∷ [])
 unfolding canonical content
 canonical-string e = rw e
 
@@ -71,14 +71,14 @@ canonical-some (array vs) = omega arith
 canonical-some (object ms) = omega arith
 
 -- a number's first byte: - or a digit
-pub minus-begins : (b : ℕ) → b ≡ 0x2_d → (eqb b 0x2_d || is_digit b) ≡ true
-minus-begins b e = rw (eq-eqb b 0x2_d e)
+pub minus-begins : (b : ℕ) → b ≡ 0x2D → (eqb b 0x2D || is_digit b) ≡ true
+minus-begins b e = rw (eq-eqb b 0x2D e)
 
-pub digit-begins : (b a : ℕ) → b ≡ a → is_digit b ≡ true → (eqb a 0x2_d || is_digit a) ≡ true
-digit-begins b a e h = rw (← e, h) (or-true (eqb b 0x2_d))
+pub digit-begins : (b a : ℕ) → b ≡ a → is_digit b ≡ true → (eqb a 0x2D || is_digit a) ≡ true
+digit-begins b a e h = rw (← e, h) (or-true (eqb b 0x2D))
 
-pub neither-begins : (b : ℕ) → (b ≡ 0x2_d → ⊥) → is_digit b ≡ false → (eqb b 0x2_d || is_digit b) ≡ false
-neither-begins b n h = rw (ne_eqb b 0x2_d n, h)
+pub neither-begins : (b : ℕ) → (b ≡ 0x2D → ⊥) → is_digit b ≡ false → (eqb b 0x2D || is_digit b) ≡ false
+neither-begins b n h = rw (ne_eqb b 0x2D n, h)
 
 -- two bytes into a list, one behind the other
 two-written :
@@ -128,7 +128,7 @@ module _ (t out : List ℕ) (at pos : ℕ) (w : WritesScalar t out at pos) where
         let q = val-string w.spans.is (here 0x22 b) in
         (q.0, q.1, rw behind-here at q.2)
 
-    string_bytes : canonical (content value) ≡ 3 ∷ (text ++ 0x_ff ∷ [])
+    string_bytes : canonical (content value) ≡ 3 ∷ (text ++ 0xFF ∷ [])
     string_bytes = let q = string-chars in canonical-string (q.1 ∙ ap string (sym (chars-text q.2)))
 
     string-ends : chars_rest (drop (at + 1) t) ≡ some (drop end t)
@@ -141,12 +141,12 @@ module _ (t out : List ℕ) (at pos : ℕ) (w : WritesScalar t out at pos) where
     string-wrote out' r p =
         let m = string-room in
         let l = tagged-length 3 text in
-        scalar-wrote (3 ∷ (text ++ 0x_ff ∷ [])) out' r string_bytes
+        scalar-wrote (3 ∷ (text ++ 0xFF ∷ [])) out' r string_bytes
         (one_place t r.at end (p.end _ string-ends) p.fits w.spans.fits)
-        (p.bytes ∙ tag-written out pos 3 (text ++ 0x_ff ∷ []) (omega arith))
+        (p.bytes ∙ tag-written out pos 3 (text ++ 0xFF ∷ []) (omega arith))
         (omega (arith, p.next))
 
-  module _ (b : (eqb (byte_at t at) 0x2_d || is_digit (byte_at t at)) ≡ true) where
+  module _ (b : (eqb (byte_at t at) 0x2D || is_digit (byte_at t at)) ≡ true) where
     number_is : (value ≡ number (up_to (drop end t) (drop at t))) × Number (drop at t) (drop end t)
     unfolding starts_number
     number_is = val-number w.spans.is (rw byte-here b)
@@ -154,7 +154,7 @@ module _ (t out : List ℕ) (at pos : ℕ) (w : WritesScalar t out at pos) where
     number-ends : number_rest (drop at t) ≡ some (drop end t)
     number-ends = number-rest number_is.1 w.spans.stop
 
-    number-bytes : canonical (content value) ≡ 2 ∷ (take (end - at) (drop at t) ++ 0x_ff ∷ [])
+    number-bytes : canonical (content value) ≡ 2 ∷ (take (end - at) (drop at t) ++ 0xFF ∷ [])
     number-bytes =
         let s = w.spans in
         canonical-number (number_is.0 ∙ ap number (up-to-place t at end (omega arith) s.fits))
@@ -181,23 +181,23 @@ module _ (t out : List ℕ) (at pos : ℕ) (w : WritesScalar t out at pos) where
     pub number-wrote :
         (e last : ℕ) (out' : List ℕ) →
         e ≡ end → out' ≡ written (pos + 1) (take (e - at) (drop at t)) (set out pos 2) → last ≡ pos + 1 + (e - at) →
-        WroteScalar t out (set out' last 0x_ff) at pos (record { at = e; pos = last + 1 })
+        WroteScalar t out (set out' last 0xFF) at pos (record { at = e; pos = last + 1 })
     number-wrote e last out' p o n =
         let m = number-room in
         let l = number-length in
         let x = take (end - at) (drop at t) in
-        let f : set out' last 0x_ff ≡ written pos ((2 ∷ x) ++ 0x_ff ∷ []) out =
-        rw (o, p, tag-written out pos 2 x (omega arith)) (written_next pos (2 ∷ x) out last 0x_ff (omega arith) (omega arith)) in
-        scalar-wrote (2 ∷ (x ++ 0x_ff ∷ [])) _ _ number-bytes p f (omega (arith, tagged-length 2 x))
+        let f : set out' last 0xFF ≡ written pos ((2 ∷ x) ++ 0xFF ∷ []) out =
+        rw (o, p, tag-written out pos 2 x (omega arith)) (written_next pos (2 ∷ x) out last 0xFF (omega arith) (omega arith)) in
+        scalar-wrote (2 ∷ (x ++ 0xFF ∷ [])) _ _ number-bytes p f (omega (arith, tagged-length 2 x))
 
-  module _ (b : byte_at t at ≡ 0x6_e) where
+  module _ (b : byte_at t at ≡ 0x6E) where
     null-bytes : canonical (content value) ≡ 0 ∷ []
-    null-bytes = canonical-null (val-null w.spans.is (here 0x6_e b)).0
+    null-bytes = canonical-null (val-null w.spans.is (here 0x6E b)).0
 
     null-end : at + 4 ≡ end
     null-end =
         let s = w.spans in
-        omega (arith, simp length-drop at (ap length (val-null s.is (here 0x6_e b)).1))
+        omega (arith, simp length-drop at (ap length (val-null s.is (here 0x6E b)).1))
 
     null-room : pos + 1 ≤ length out
     null-room = scalar-room _ null-bytes
@@ -237,10 +237,10 @@ module _ (t out : List ℕ) (at pos : ℕ) (w : WritesScalar t out at pos) where
 
   -- what begins with no other byte is false
   pub is_false :
-      (b : ℕ) → b ≡ byte_at t at → (b ≡ 0x22 → ⊥) → (b ≡ 0x5_b → ⊥) → (b ≡ 0x7_b → ⊥) → (eqb b 0x2_d || is_digit b) ≡ false →
-      (b ≡ 0x6_e → ⊥) → (b ≡ 0x74 → ⊥) → byte_at t at ≡ 0x66
+      (b : ℕ) → b ≡ byte_at t at → (b ≡ 0x22 → ⊥) → (b ≡ 0x5B → ⊥) → (b ≡ 0x7B → ⊥) → (eqb b 0x2D || is_digit b) ≡ false →
+      (b ≡ 0x6E → ⊥) → (b ≡ 0x74 → ⊥) → byte_at t at ≡ 0x66
   unfolding starts starts_number
   is_false b p s a o n m h =
       let e : starts b ≡ true = rw (p, ← byte-here t at) (val-starts w.spans.is) in
       sym p ∙ eqb-true b 0x66
-      (simp (ne_eqb b 0x6_e m, ne_eqb b 0x74 h, ne_eqb b 0x22 s, ne_eqb b 0x5_b a, ne_eqb b 0x7_b o, n, or-false) at e)
+      (simp (ne_eqb b 0x6E m, ne_eqb b 0x74 h, ne_eqb b 0x22 s, ne_eqb b 0x5B a, ne_eqb b 0x7B o, n, or-false) at e)

@@ -24,7 +24,7 @@ use Rattle.writing.proofs.Spanning.{spans-to, place_found}
 -- what begins as none of the others is a literal
 literal-rest :
     {s r : List ℕ} {v : Value} →
-    Val s v r → (byte_at s 0 ≡ 0x22 → ⊥) → (byte_at s 0 ≡ 0x5_b → ⊥) → (byte_at s 0 ≡ 0x7_b → ⊥) → starts_number (byte_at s 0) ≡ false →
+    Val s v r → (byte_at s 0 ≡ 0x22 → ⊥) → (byte_at s 0 ≡ 0x5B → ⊥) → (byte_at s 0 ≡ 0x7B → ⊥) → starts_number (byte_at s 0) ≡ false →
     literal_rest s ≡ some r
 unfolding literal_rest word_rest
 literal-rest a_null h k l n = refl
@@ -53,17 +53,17 @@ module _ (t : List ℕ) (at e : ℕ) (s : Spans t at e) where
     number-ends : starts_number b ≡ true → number_rest (drop at t) ≡ some (drop e t)
     number-ends h = number-rest (val-number s.is (ap starts_number front ∙ h)).1 s.stop
 
-    pub minus-ends : b ≡ 0x2_d → number_rest (drop at t) ≡ some (drop e t)
+    pub minus-ends : b ≡ 0x2D → number_rest (drop at t) ≡ some (drop e t)
     unfolding starts_number
-    minus-ends h = number-ends (rw (eq-eqb b 0x2_d h))
+    minus-ends h = number-ends (rw (eq-eqb b 0x2D h))
 
     pub digit-ends : is_digit b ≡ true → number_rest (drop at t) ≡ some (drop e t)
     unfolding starts_number
     digit-ends h = number-ends (rw (h, or-true))
 
     pub literal-ends :
-        (b ≡ 0x22 → ⊥) → (b ≡ 0x2_d → ⊥) → is_digit b ≡ false → (byte_at t at ≡ 0x5_b → ⊥) → (byte_at t at ≡ 0x7_b → ⊥) →
+        (b ≡ 0x22 → ⊥) → (b ≡ 0x2D → ⊥) → is_digit b ≡ false → (byte_at t at ≡ 0x5B → ⊥) → (byte_at t at ≡ 0x7B → ⊥) →
         literal_rest (drop at t) ≡ some (drop e t)
     unfolding starts_number
     literal-ends h m d k l =
-        literal-rest s.is (λ x. h (sym front ∙ x)) (λ x. k (sym (front ∙ q) ∙ x)) (λ x. l (sym (front ∙ q) ∙ x)) (rw (front, ne_eqb b 0x2_d m, d))
+        literal-rest s.is (λ x. h (sym front ∙ x)) (λ x. k (sym (front ∙ q) ∙ x)) (λ x. l (sym (front ∙ q) ∙ x)) (rw (front, ne_eqb b 0x2D m, d))

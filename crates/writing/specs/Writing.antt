@@ -24,7 +24,7 @@ pub record PutChar (t : List ℕ) (at : ℕ) (out out' : List ℕ) (pos : ℕ) (
 
 -- a string's bytes and FF from pos on; where the string has an end, its end
 pub record PutString (t : List ℕ) (at : ℕ) (out out' : List ℕ) (pos : ℕ) (r : Spot) : Type 0 where
-  pub bytes : out' ≡ written pos (chars_text (drop at t) ++ 0x_ff ∷ []) out
+  pub bytes : out' ≡ written pos (chars_text (drop at t) ++ 0xFF ∷ []) out
   pub next : r.pos ≡ pos + length (chars_text (drop at t)) + 1
   pub fits : r.at ≤ length t
   pub end : (s : List ℕ) → chars_rest (drop at t) ≡ some s → drop r.at t ≡ s
@@ -73,7 +73,7 @@ pub record WroteScalar (t out out' : List ℕ) (at pos : ℕ) (r : Spot) : Type 
 
 -- a member's name, FF, the canonical bytes of its value
 abbrev pub member_bytes : List ℕ → Value → List ℕ
-member_bytes x v = x ++ 0x_ff ∷ canonical (content v)
+member_bytes x v = x ++ 0xFF ∷ canonical (content v)
 
 -- what writing a value asks for
 pub record Writable (t ends places merged names out : List ℕ) (at top pos : ℕ) : Type 0 where

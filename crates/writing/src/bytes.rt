@@ -108,7 +108,7 @@ pub fn put_string(text: &[u8], at: usize, out: &mut [u8], pos: usize) -> Spot
     while i < text.len() {
         let b = text[i];
         if b == 0x22 {
-            out[end] = 0x_ff;
+            out[end] = 0xFF;
             return Spot {
                 at: i + 1,
                 pos: end + 1,
@@ -121,7 +121,7 @@ pub fn put_string(text: &[u8], at: usize, out: &mut [u8], pos: usize) -> Spot
         } else {
             let next = put_special(text, i, out, end);
             if next.at == i {
-                out[end] = 0x_ff;
+                out[end] = 0xFF;
                 return Spot {
                     at: i,
                     pos: end + 1,
@@ -131,7 +131,7 @@ pub fn put_string(text: &[u8], at: usize, out: &mut [u8], pos: usize) -> Spot
             i = next.at;
         }
     }
-    out[end] = 0x_ff;
+    out[end] = 0xFF;
     Spot {
         at: i,
         pos: end + 1,

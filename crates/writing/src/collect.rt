@@ -20,7 +20,7 @@ pub struct Collected {
 fn note_member(text: &[u8], at: usize, ends: &mut [u16], names: &mut [u8]) -> usize
     requires { SkippableMember text.now ends.old at × (length text.now ≤ length names.old) }
     ensures { MemberSpans text.now at result × Ends text.now ends.new
-        × (names.new ≡ written at (name_at text.now at ++ 0x_ff ∷ []) names.old) }
+        × (names.new ≡ written at (name_at text.now at ++ 0xFF ∷ []) names.old) }
 {
     let name = put_string(text, at + 1, names, at);
     let colon = skip_ws(text, name.at);
@@ -37,13 +37,13 @@ pub fn collect(
     names: &mut [u8],
     top: usize,
 ) -> Collected
-    requires { ((s : Skippable text.now ends.old at) × (4 * top + (s.end - at) ≤ 4 * length places.old)) × (byte_at text.now at ≡ 0x7_b)
+    requires { ((s : Skippable text.now ends.old at) × (4 * top + (s.end - at) ≤ 4 * length places.old)) × (byte_at text.now at ≡ 0x7B)
         × (length text.now ≤ length names.old) }
     ensures { Gathered text.now ends.new places.old places.new names.new at top result }
 {
     let mut i = skip_ws(text, at + 1);
     let mut count: usize = 0;
-    if byte(text, i) == 0x7_d {
+    if byte(text, i) == 0x7D {
         return Collected { count, end: i + 1 };
     }
     loop {
@@ -51,7 +51,7 @@ pub fn collect(
         count += 1;
         let end = note_member(text, i, ends, names);
         let behind = skip_ws(text, end);
-        if byte(text, behind) != 0x2_c {
+        if byte(text, behind) != 0x2C {
             return Collected {
                 count,
                 end: behind + 1,

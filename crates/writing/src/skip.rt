@@ -30,14 +30,14 @@ fn place_of(end: End) -> usize
 // The end of a string, a number or a literal.
 fn scalar_end(text: &[u8], at: usize) -> usize
     requires { ((e : ℕ) × Spans text.now at e) × (length text.now ≤ longest)
-        × (byte_at text.now at ≡ 0x5_b → ⊥) × (byte_at text.now at ≡ 0x7_b → ⊥) }
+        × (byte_at text.now at ≡ 0x5B → ⊥) × (byte_at text.now at ≡ 0x7B → ⊥) }
     ensures { Spans text.now at result }
 {
     let b = byte(text, at);
     if b == 0x22 {
         return skip_string(text, at + 1);
     }
-    if b == 0x2_d {
+    if b == 0x2D {
         return place_of(number_end(text, at));
     }
     if is_digit(b) {
@@ -48,17 +48,17 @@ fn scalar_end(text: &[u8], at: usize) -> usize
 
 #[cycle(member_end_skip_array_skip_object_skip_value_value_end)]
 fn skip_array(text: &[u8], at: usize, ends: &mut [u16]) -> usize
-    requires { Skippable text.now ends.old at × (byte_at text.now at ≡ 0x5_b) }
+    requires { Skippable text.now ends.old at × (byte_at text.now at ≡ 0x5B) }
     ensures { Spans text.now at result × Ends text.now ends.new }
 {
     let mut i = skip_ws(text, at + 1);
-    if byte(text, i) == 0x5_d {
+    if byte(text, i) == 0x5D {
         return i + 1;
     }
     loop {
         let end = skip_value(text, i, ends);
         let behind = skip_ws(text, end);
-        if byte(text, behind) != 0x2_c {
+        if byte(text, behind) != 0x2C {
             return behind + 1;
         }
         i = skip_ws(text, behind + 1);
@@ -78,17 +78,17 @@ fn member_end(text: &[u8], at: usize, ends: &mut [u16]) -> usize
 
 #[cycle(member_end_skip_array_skip_object_skip_value_value_end)]
 fn skip_object(text: &[u8], at: usize, ends: &mut [u16]) -> usize
-    requires { Skippable text.now ends.old at × (byte_at text.now at ≡ 0x7_b) }
+    requires { Skippable text.now ends.old at × (byte_at text.now at ≡ 0x7B) }
     ensures { Spans text.now at result × Ends text.now ends.new }
 {
     let mut i = skip_ws(text, at + 1);
-    if byte(text, i) == 0x7_d {
+    if byte(text, i) == 0x7D {
         return i + 1;
     }
     loop {
         let end = member_end(text, i, ends);
         let behind = skip_ws(text, end);
-        if byte(text, behind) != 0x2_c {
+        if byte(text, behind) != 0x2C {
             return behind + 1;
         }
         i = skip_ws(text, behind + 1);
@@ -102,10 +102,10 @@ fn value_end(text: &[u8], at: usize, ends: &mut [u16]) -> usize
     ensures { Spans text.now at result × Ends text.now ends.new }
 {
     let b = byte(text, at);
-    if b == 0x5_b {
+    if b == 0x5B {
         return skip_array(text, at, ends);
     }
-    if b == 0x7_b {
+    if b == 0x7B {
         return skip_object(text, at, ends);
     }
     scalar_end(text, at)

@@ -22,7 +22,7 @@ fn write_string(text: &[u8], at: usize, out: &mut [u8], pos: usize) -> Spot
 }
 
 fn write_number(text: &[u8], at: usize, out: &mut [u8], pos: usize) -> Spot
-    requires { WritesScalar text.now out.old at pos × ((eqb (byte_at text.now at) 0x2_d || is_digit (byte_at text.now at)) ≡ true) }
+    requires { WritesScalar text.now out.old at pos × ((eqb (byte_at text.now at) 0x2D || is_digit (byte_at text.now at)) ≡ true) }
     ensures { WroteScalar text.now out.old out.new at pos result }
 {
     let End::At(end) = number_end(text, at) else {
@@ -30,7 +30,7 @@ fn write_number(text: &[u8], at: usize, out: &mut [u8], pos: usize) -> Spot
     };
     out[pos] = 2;
     let last = put_text(text, at, end, out, pos + 1);
-    out[last] = 0x_ff;
+    out[last] = 0xFF;
     Spot {
         at: end,
         pos: last + 1,
@@ -39,11 +39,11 @@ fn write_number(text: &[u8], at: usize, out: &mut [u8], pos: usize) -> Spot
 
 // null, true or false, by its first byte b.
 fn write_literal(text: &[u8], at: usize, b: u32, out: &mut [u8], pos: usize) -> Spot
-    requires { WritesScalar text.now out.old at pos × (b ≡ byte_at text.now at) × (b ≡ 0x22 → ⊥) × (b ≡ 0x5_b → ⊥) × (b ≡ 0x7_b → ⊥)
-        × ((eqb b 0x2_d || is_digit b) ≡ false) }
+    requires { WritesScalar text.now out.old at pos × (b ≡ byte_at text.now at) × (b ≡ 0x22 → ⊥) × (b ≡ 0x5B → ⊥) × (b ≡ 0x7B → ⊥)
+        × ((eqb b 0x2D || is_digit b) ≡ false) }
     ensures { WroteScalar text.now out.old out.new at pos result }
 {
-    if b == 0x6_e {
+    if b == 0x6E {
         out[pos] = 0;
         return Spot {
             at: at + 4,
@@ -67,14 +67,14 @@ fn write_literal(text: &[u8], at: usize, b: u32, out: &mut [u8], pos: usize) -> 
 
 // A string, a number or a literal.
 fn write_scalar(text: &[u8], at: usize, out: &mut [u8], pos: usize) -> Spot
-    requires { WritesScalar text.now out.old at pos × (byte_at text.now at ≡ 0x5_b → ⊥) × (byte_at text.now at ≡ 0x7_b → ⊥) }
+    requires { WritesScalar text.now out.old at pos × (byte_at text.now at ≡ 0x5B → ⊥) × (byte_at text.now at ≡ 0x7B → ⊥) }
     ensures { WroteScalar text.now out.old out.new at pos result }
 {
     let b = byte(text, at);
     if b == 0x22 {
         return write_string(text, at, out, pos);
     }
-    if b == 0x2_d {
+    if b == 0x2D {
         return write_number(text, at, out, pos);
     }
     if is_digit(b) {
@@ -96,14 +96,14 @@ fn write_array(
     out: &mut [u8],
     pos: usize,
 ) -> Spot
-    requires { Writable text.now ends.old places.old merged.old names.old out.old at top pos × (byte_at text.now at ≡ 0x5_b) }
+    requires { Writable text.now ends.old places.old merged.old names.old out.old at top pos × (byte_at text.now at ≡ 0x5B) }
     ensures { Wrote text.now ends.new places.old places.new
         out.old out.new at top pos result }
 {
     let mut i = skip_ws(text, at + 1);
     let mut end = pos + 9;
     let mut count: usize = 0;
-    if byte(text, i) == 0x5_d {
+    if byte(text, i) == 0x5D {
         put_header(out, pos, 4, count);
         return Spot {
             at: i + 1,
@@ -115,7 +115,7 @@ fn write_array(
         end = next.pos;
         count += 1;
         let behind = skip_ws(text, next.at);
-        if byte(text, behind) != 0x2_c {
+        if byte(text, behind) != 0x2C {
             put_header(out, pos, 4, count);
             return Spot {
                 at: behind + 1,
@@ -163,7 +163,7 @@ fn write_object(
     out: &mut [u8],
     pos: usize,
 ) -> Spot
-    requires { Writable text.now ends.old places.old merged.old names.old out.old at top pos × (byte_at text.now at ≡ 0x7_b) }
+    requires { Writable text.now ends.old places.old merged.old names.old out.old at top pos × (byte_at text.now at ≡ 0x7B) }
     ensures { Wrote text.now ends.new places.old places.new
         out.old out.new at top pos result }
 {
@@ -210,10 +210,10 @@ pub fn write_value(
         out.old out.new at top pos result }
 {
     let b = byte(text, at);
-    if b == 0x5_b {
+    if b == 0x5B {
         return write_array(text, at, ends, places, merged, names, top, out, pos);
     }
-    if b == 0x7_b {
+    if b == 0x7B {
         return write_object(text, at, ends, places, merged, names, top, out, pos);
     }
     write_scalar(text, at, out, pos)

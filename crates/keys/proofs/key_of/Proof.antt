@@ -18,7 +18,7 @@ loop-holds : tie.Need-loop-init invariant-loop decreases-loop
 loop-holds c =
     let s = c.before.before.before.before.args.bytes.now in
     let one = c.before.before.new.ensures in
-    let two = c.compress.ensures ∙ ap (λ (t : State). compressed t 0x9_e3779_b97_f4_a7_c15) c.before.new2.ensures in
+    let two = c.compress.ensures ∙ ap (λ (t : State). compressed t 0x9E3779B97F4A7C15) c.before.new2.ensures in
     (omega arith, rw one (hash-start s), rw two (hash-prefix s))
 
 loop-again : tie.Need-loop-preserved invariant-loop decreases-loop

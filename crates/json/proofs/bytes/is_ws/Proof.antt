@@ -16,13 +16,13 @@ returns-3 : tie.Need-returns-3
 unfolding is_ws
 returns-3 c =
     let b = c.before.before.before.args.b in
-    simp (ne_eqb b 0x20 c.before.before.if1.false, ne_eqb b 0x09 c.before.if2.false, eq-eqb b 0x0_a c.if3.true)
+    simp (ne_eqb b 0x20 c.before.before.if1.false, ne_eqb b 0x09 c.before.if2.false, eq-eqb b 0x0A c.if3.true)
 
 returns-4 : tie.Need-returns-4
 unfolding is_ws
 returns-4 c =
     let b = c.before.before.before.args.b in
-    simp (ne_eqb b 0x20 c.before.before.if1.false, ne_eqb b 0x09 c.before.if2.false, ne_eqb b 0x0_a c.if3.false)
+    simp (ne_eqb b 0x20 c.before.before.if1.false, ne_eqb b 0x09 c.before.if2.false, ne_eqb b 0x0A c.if3.false)
 
 pub is-ws-spec : {M : Type 1} → statement M
 is-ws-spec = tie.close (tie.spec returns returns-2 returns-3 returns-4)

@@ -35,11 +35,11 @@ returns-7 c =
     let r = c.match.rest in
     simp (
       ne_eqb b 0x22 (λ e. r.0.0.0.0.0.1 (inl e)),
-      ne_eqb b 0x2_f (λ e. r.0.0.0.0.0.1 (inr (inl e))),
-      ne_eqb b 0x5_c (λ e. r.0.0.0.0.0.1 (inr (inr e))),
+      ne_eqb b 0x2F (λ e. r.0.0.0.0.0.1 (inr (inl e))),
+      ne_eqb b 0x5C (λ e. r.0.0.0.0.0.1 (inr (inr e))),
       ne_eqb b 0x62 r.0.0.0.0.1,
       ne_eqb b 0x66 r.0.0.0.1,
-      ne_eqb b 0x6_e r.0.0.1,
+      ne_eqb b 0x6E r.0.0.1,
       ne_eqb b 0x72 r.0.1,
       ne_eqb b 0x74 r.1,
     )

@@ -7,20 +7,20 @@ use Rattle.json.proofs.strings.first_of_three.Tie as tie
 
 returns : tie.Need-returns
 unfolding first_of_three
-returns c = rw (eq-eqb c.before.before.args.a 0x_e0 c.before.if1.true) c.within.ensures
+returns c = rw (eq-eqb c.before.before.args.a 0xE0 c.before.if1.true) c.within.ensures
 
 returns-2 : tie.Need-returns-2
 unfolding first_of_three
 returns-2 c =
     let a = c.before.before.before.args.a in
-    rw (ne_eqb a 0x_e0 c.before.before.if1.false, eq-eqb a 0x_ed c.before.if2.true) c.within2.ensures
+    rw (ne_eqb a 0xE0 c.before.before.if1.false, eq-eqb a 0xED c.before.if2.true) c.within2.ensures
 
 returns-3 : tie.Need-returns-3
 unfolding first_of_three
 returns-3 c =
     let p = c.before.before.before.before in
     let a = p.before.args.a in
-    rw (ne_eqb a 0x_e0 p.if1.false, ne_eqb a 0x_ed c.before.before.before.if2.false)
+    rw (ne_eqb a 0xE0 p.if1.false, ne_eqb a 0xED c.before.before.before.if2.false)
     (rw (sym c.before.before.within3.ensures ∙ c.before.if3.true) c.tail.ensures)
 
 returns-4 : tie.Need-returns-4
@@ -28,7 +28,7 @@ unfolding first_of_three
 returns-4 c =
     let p = c.before.before.before in
     let a = p.before.args.a in
-    rw (ne_eqb a 0x_e0 p.if1.false, ne_eqb a 0x_ed c.before.before.if2.false)
+    rw (ne_eqb a 0xE0 p.if1.false, ne_eqb a 0xED c.before.before.if2.false)
     (rw (sym c.before.within3.ensures ∙ c.if3.false))
 
 pub first-of-three-spec : {M : Type 1} → statement M

@@ -15,8 +15,8 @@ use Rattle.json.proofs.strings.pair_len.Tie as tie
 high : (c : tie.Else1) → (let a = c.before.before.before.before.args in is_high (hex_at a.text.now (a.at + 2)) ≡ true)
 high c = test_of is_high c.before.is-high.ensures c.before.before.hex-at.ensures (not-false _ c.if1.false)
 
-slash : (c : tie.Else2) → (let a = c.before.before.before.before.before.before.args in eqb (byte_at a.text.now (a.at + 6)) 0x5_c ≡ true)
-slash c = eq-eqb _ 0x5_c (sym c.before.byte.ensures ∙ c.if2.false)
+slash : (c : tie.Else2) → (let a = c.before.before.before.before.before.before.args in eqb (byte_at a.text.now (a.at + 6)) 0x5C ≡ true)
+slash c = eq-eqb _ 0x5C (sym c.before.byte.ensures ∙ c.if2.false)
 
 letter :
     (c : tie.Else3) →
@@ -30,7 +30,7 @@ returns c =
 returns-2 : tie.Need-returns-2
 returns-2 c =
     rw pair-at
-    (simp (ne_eqb _ 0x5_c (λ e. c.if2.true (c.before.byte.ensures ∙ e)), and-false))
+    (simp (ne_eqb _ 0x5C (λ e. c.if2.true (c.before.byte.ensures ∙ e)), and-false))
 
 returns-3 : tie.Need-returns-3
 returns-3 c =

@@ -11,13 +11,13 @@ returns c = simp (eq-eqb c.before.args.b 0x22 c.if1.true, and-false)
 
 returns-2 : tie.Need-returns-2
 unfolding plain
-returns-2 c = simp (eq-eqb c.before.before.args.b 0x5_c c.if2.true, and-false)
+returns-2 c = simp (eq-eqb c.before.before.args.b 0x5C c.if2.true, and-false)
 
 returns-3 : tie.Need-returns-3
 unfolding plain
 returns-3 c =
     let b = c.before.before.before.args.b in
-    simp (ne_eqb b 0x22 c.before.before.if1.false, ne_eqb b 0x5_c c.before.if2.false, and-true) c.within.ensures
+    simp (ne_eqb b 0x22 c.before.before.if1.false, ne_eqb b 0x5C c.before.if2.false, and-true) c.within.ensures
 
 pub plain-spec : {M : Type 1} → statement M
 plain-spec = tie.close (tie.spec returns returns-2 (λ c κs. search rules) returns-3)

@@ -11,11 +11,11 @@ use Rattle.json.proofs.strings.utf8_len.Statement.{statement}
 use Rattle.json.proofs.strings.utf8_len.Tie as tie
 
 -- what the tests say that are passed
-two : (c : tie.Then1) → (let a = c.before.before.before.before.before.args in within 0x_c2 0x_df (byte_at a.text.now a.at) ≡ true)
-two c = test_of (within 0x_c2 0x_df) c.before.within.ensures c.before.before.before.byte.ensures c.if1.true
+two : (c : tie.Then1) → (let a = c.before.before.before.before.before.args in within 0xC2 0xDF (byte_at a.text.now a.at) ≡ true)
+two c = test_of (within 0xC2 0xDF) c.before.within.ensures c.before.before.before.byte.ensures c.if1.true
 
-not-two : (c : tie.Else1) → (let a = c.before.before.before.before.before.args in within 0x_c2 0x_df (byte_at a.text.now a.at) ≡ false)
-not-two c = test_of (within 0x_c2 0x_df) c.before.within.ensures c.before.before.before.byte.ensures c.if1.false
+not-two : (c : tie.Else1) → (let a = c.before.before.before.before.before.args in within 0xC2 0xDF (byte_at a.text.now a.at) ≡ false)
+not-two c = test_of (within 0xC2 0xDF) c.before.within.ensures c.before.before.before.byte.ensures c.if1.false
 
 third : (c : tie.Else3) → (let a = c.before.before.before.before.before.before.before.before.args in tail (byte_at a.text.now (a.at + 2)) ≡ true)
 third c = test_of tail c.before.tail2.ensures c.before.before.byte3.ensures (not-false _ c.if3.false)

@@ -22,7 +22,7 @@ returns-2 : tie.Need-returns-2
 unfolding record_of
 returns-2 c =
     let b = c.before.before.before.before.before.before.before.args.b.now in
-    rw (le-ltb _ _ c.before.before.before.before.before.if1.false, eq-eqb (get_or b 0 0) 0x4_d c.before.before.before.if2.true, eq-eqb (get_or b 1 0) 0x47 c.before.if3.true, c.call-of.ensures)
+    rw (le-ltb _ _ c.before.before.before.before.before.if1.false, eq-eqb (get_or b 0 0) 0x4D c.before.before.before.if2.true, eq-eqb (get_or b 1 0) 0x47 c.before.if3.true, c.call-of.ensures)
 
 returns-3 : tie.Need-returns-3
 unfolding record_of

@@ -38,7 +38,7 @@ inside c =
     let b = c.before.before in
     let l = b.before.before in
     let w = l.before.before.args.names.now in
-    (inside-by w l.loop.i 0x_ff (λ q. omega (arith, b.before.byte-in.ensures)), inside-by w l.loop.j 0x_ff (λ q. omega (arith, b.byte-in2.ensures)))
+    (inside-by w l.loop.i 0xFF (λ q. omega (arith, b.before.byte-in.ensures)), inside-by w l.loop.j 0xFF (λ q. omega (arith, b.byte-in2.ensures)))
 
 returns : tie.Need-returns invariant-loop decreases-loop
 returns c = c.order-of.ensures _ _ ∙ read c.before.before

@@ -12,7 +12,7 @@ use Rattle.member_order.proofs.names.decode.Tie as tie
 
 -- a backslash stands at the place
 backslash :
-    (c : tie.Then1) → (let a = c.before.before.before.args in byte_at (drop a.at a.text.now) 0 ≡ 0x5_c)
+    (c : tie.Then1) → (let a = c.before.before.before.args in byte_at (drop a.at a.text.now) 0 ≡ 0x5C)
 backslash c = let a = c.before.before.before.args in byte-here a.text.now a.at ∙ (sym c.before.byte.ensures ∙ c.if1.true)
 
 decode-escape-requires : tie.Need-decode-escape-requires
@@ -27,8 +27,8 @@ returns-2 c =
     let e = p.before in
     let a = e.before.before.before.args in
     let t = a.text.now in
-    let n : eqb (byte_at (drop a.at t) 0) 0x5_c ≡ false =
-    ne_eqb _ 0x5_c (λ q. e.if1.false (e.before.byte.ensures ∙ (sym (byte-here t a.at) ∙ q))) in
+    let n : eqb (byte_at (drop a.at t) 0) 0x5C ≡ false =
+    ne_eqb _ 0x5C (λ q. e.if1.false (e.before.byte.ensures ∙ (sym (byte-here t a.at) ∙ q))) in
     decodes-front t a.at _ n (search rules) (search rules)
     p.byte_of.ensures c.before.before.byte-of2.ensures c.before.byte-of3.ensures c.byte-of4.ensures
 
