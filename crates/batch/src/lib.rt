@@ -1,4 +1,6 @@
 // Many calls at once: a list of calls of eight words each, done one after the other on a store that is tested once.
+#![tactic(auto)]
+
 ghost use Rattle.std.specs.Prelude.{◌≡◌, List, [], ◌∷◌, ℕ, ◌+◌, ◌*◌, ◌≤◌, length, get_or, take};
 ghost use Rattle.rules.specs.Answers.{number, of_step, of_lost, of_ticked};
 ghost use Rattle.store.specs.Store.{Sound};
@@ -13,7 +15,7 @@ use codes::Told;
 use rules::{EventKey, Lost, Step, Ticked};
 
 // Why a list of calls ended.
-#[derive(Drop)]
+#[derive(Clone, Copy)]
 pub enum Stop {
     // Every whole call of the list was done.
     AllDone,
@@ -25,7 +27,7 @@ pub enum Stop {
     NoAnswers,
 }
 
-#[derive(Drop)]
+#[derive(Clone, Copy)]
 pub enum Batched {
     // So many calls were done, and put out so many records and reports; why the list ended.
     Did {
@@ -39,7 +41,7 @@ pub enum Batched {
 
 // The same as four numbers: code 0 is a refusal, and the count of calls its number; 1 all done, 11 no room for the next call, 12 no
 // call, 13 no room for another answer.
-#[derive(Drop)]
+#[derive(Clone, Copy)]
 pub struct Numbers {
     pub code: u64,
     pub calls: u64,
@@ -48,7 +50,7 @@ pub struct Numbers {
 }
 
 // A list under way: what was done so far, and whether it ends here.
-#[derive(Drop)]
+#[derive(Clone, Copy)]
 pub struct Counts {
     pub calls: usize,
     pub records: usize,

@@ -1,4 +1,6 @@
 // The eight public calls: any words, any lengths, any times. What each of them promises is in crate promise.
+#![tactic(auto)]
+
 ghost use Rattle.rules.specs.Refusals.{Subscribe, Snapshot, BookEvent, Print, Drop, Promote, Reset, Tick};
 ghost use Rattle.rules.specs.Answers.{of_step, of_changed, of_lost, of_ticked};
 ghost use Rattle.market.specs.Lent.{lent, alone};

@@ -1,4 +1,6 @@
 // Reads lines from standard input, one call to a line, makes the calls on one store, and writes each line with its answer.
+#![tactic(auto)]
+
 mod acting;
 mod answers;
 mod by_hand;

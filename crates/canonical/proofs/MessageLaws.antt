@@ -5,16 +5,16 @@ use mathlib.Core.List.{List, ◌++◌}
 use Prim.Native.Nat.{ℕ, zero, suc, ◌*◌, ◌≤◌}
 use native.Mathlib.Omega.{arith}
 use lib.ListN.{length, drop, get_or, length-drop}
-use Rattle.json.specs.Bytes.{is_digit, within}
-use Rattle.json.specs.Canonical.{canonical}
-use Rattle.json.specs.Content.{content}
-use Rattle.json.specs.Grammar.{Val, Text, text}
-use Rattle.json.specs.Refusals.{Judged, too_long, no_text, judged}
-use Rattle.json.specs.Values.{Value}
-use Rattle.json.specs.Work.{byte_at, goes_on}
-use Rattle.json.proofs.Fronts.{val-ws, ws-ends}
-use Rattle.json.proofs.OneValue.{val-only}
-use Rattle.json.proofs.Spaces.{ws-skips, skip-front}
+use Rattle.json_text.specs.Bytes.{is_digit, within}
+use Rattle.json_text.specs.Canonical.{canonical}
+use Rattle.json_text.specs.Content.{content}
+use Rattle.json_text.specs.Grammar.{Val, Text, text}
+use Rattle.json_text.specs.Refusals.{Judged, too_long, no_text, judged}
+use Rattle.json_text.specs.Values.{Value}
+use Rattle.json_text.specs.Work.{byte_at, goes_on}
+use Rattle.json_text.proofs.Fronts.{val-ws, ws-ends}
+use Rattle.json_text.proofs.OneValue.{val-only}
+use Rattle.json_text.proofs.Spaces.{ws-skips, skip-front}
 use Rattle.content.proofs.Fits.{val-fits}
 use Rattle.writing.specs.declared.Spot.{Spot}
 use Rattle.canonical.specs.Calls.{Message, WroteMessage}

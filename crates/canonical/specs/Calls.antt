@@ -1,10 +1,10 @@
 -- Request 4 of document 02: the call. The quoted words are the request's.
 use Rattle.std.specs.Prelude.{◌≡◌, List, ◌++◌, ℕ, ◌≤◌, ◌<◌, length, drop}
-use Rattle.json.specs.Canonical.{canonical}
-use Rattle.json.specs.Content.{content}
-use Rattle.json.specs.Grammar.{Text}
-use Rattle.json.specs.Refusals.{longest, Judged, fault}
-use Rattle.json.specs.Values.{Value}
+use Rattle.json_text.specs.Canonical.{canonical}
+use Rattle.json_text.specs.Content.{content}
+use Rattle.json_text.specs.Grammar.{Text}
+use Rattle.json_text.specs.Refusals.{longest, Judged, fault}
+use Rattle.json_text.specs.Values.{Value}
 use Rattle.canonical.specs.declared.Answer.{Answer}
 use Rattle.canonical.specs.declared.Answer.TheVariants as Answer
 

@@ -1,13 +1,15 @@
 // The canonical bytes of a message.
+#![tactic(auto)]
+
 ghost use Rattle.std.specs.Prelude.{◌≡◌, ℕ, ◌*◌, ◌≤◌, length, get_or};
 ghost use Rattle.canonical.specs.Calls.{Message, WroteMessage, Answered};
 
-use json::bytes::skip_ws;
 use json_check::refusal;
+use json_text::bytes::skip_ws;
 use writing::write::write_value;
 
 // How many bytes were written, or the number of the refusal.
-#[derive(Drop)]
+#[derive(Clone, Copy)]
 pub enum Answer {
     Written(usize),
     Refused(u64),

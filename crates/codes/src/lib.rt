@@ -1,5 +1,7 @@
 // An answer as three numbers: a code, a count of records and a count of reports. The count of a refusal is its number, that of a view
 // how many messages it wrote.
+#![tactic(auto)]
+
 ghost use Rattle.std.specs.Prelude.{◌≡◌};
 ghost use Rattle.rules.specs.Answers.{of_step, of_changed, of_lost, of_ticked, of_asked, of_viewed};
 ghost use Rattle.codes.specs.Told.{Tells, TellsAsked, TellsViewed};
@@ -34,7 +36,7 @@ const NO: u64 = 2;
 
 const MESSAGES: u64 = 1;
 
-#[derive(Drop)]
+#[derive(Clone, Copy)]
 pub struct Told {
     pub code: u64,
     pub count: u64,

@@ -1,11 +1,11 @@
 -- The content of a text is clean: none of its numbers, strings and names has a byte FF.
 use mathlib.Core.List.{List}
 use Prim.Native.Nat.{ℕ}
-use Rattle.json.specs.Content.{before, put, content, contents, sorted}
-use Rattle.json.specs.Grammar.{Val, a_null, a_true, a_false, a_number, a_string, empty_array, an_array, empty_object, an_object}
-use Rattle.json.specs.Grammar.{MoreItems, end_array, next_item, MoreMembers, end_object, next_member}
-use Rattle.json.specs.Values.{Value, null, boolean, number, string, array, object}
-use Rattle.json.specs.Values.{Items, no_items, item, Members, no_members, member}
+use Rattle.json_text.specs.Content.{before, put, content, contents, sorted}
+use Rattle.json_text.specs.Grammar.{Val, a_null, a_true, a_false, a_number, a_string, empty_array, an_array, empty_object, an_object}
+use Rattle.json_text.specs.Grammar.{MoreItems, end_array, next_item, MoreMembers, end_object, next_member}
+use Rattle.json_text.specs.Values.{Value, null, boolean, number, string, array, object}
+use Rattle.json_text.specs.Values.{Items, no_items, item, Members, no_members, member}
 use Rattle.rules.proofs.Tests.{by_cond}
 use Rattle.content.proofs.CleanChars.{chars-below, name_below}
 use Rattle.content.proofs.NumberTexts.{Below, number-below}

@@ -6,12 +6,12 @@ use Prim.Native.Nat.{ℕ, ◌≤◌, ◌<◌}
 use native.Mathlib.Omega.{arith}
 use borrow.Author.Tests.{eqb-true, ltb-true}
 use lib.Dec.{ltb, eqb}
-use Rattle.json.specs.Bytes.{within, plain, tail, first_of_three, first_of_four, escape_of, hex_four, is_scalar, is_high, is_low, joined, utf8}
-use Rattle.json.specs.Grammar.{Char, one, two, three, four, escaped, unicode, pair, Chars, mark, char, Name, name}
+use Rattle.json_text.specs.Bytes.{within, plain, tail, first_of_three, first_of_four, escape_of, hex_four, is_scalar, is_high, is_low, joined, utf8}
+use Rattle.json_text.specs.Grammar.{Char, one, two, three, four, escaped, unicode, pair, Chars, mark, char, Name, name}
 use Rattle.rules.proofs.Tests.{by_cond}
 use Rattle.content.proofs.Choices.{from-cond}
 use Rattle.content.proofs.NumberTexts.{Below, below-append}
-use Rattle.json.proofs.Tests.{and-true, within-high}
+use Rattle.json_text.proofs.Tests.{and-true, within-high}
 
 tail-below : (b : ℕ) → tail b ≡ true → b < 255
 unfolding tail

@@ -5,15 +5,15 @@ use Prim.Native.Nat.{ℕ, zero, suc, ◌+◌, ◌*◌, ◌/◌, ◌≤◌}
 use native.Mathlib.Omega.{arith}
 use lib.Dec.{ltb}
 use lib.ListN.{length, length-append}
-use Rattle.json.specs.Bytes.{utf8, joined, hex_four}
-use Rattle.json.specs.Canonical.{little_endian, items, members, canonical, canonical_items, canonical_members}
-use Rattle.json.specs.Content.{before, put, content, contents, sorted}
+use Rattle.json_text.specs.Bytes.{utf8, joined, hex_four}
+use Rattle.json_text.specs.Canonical.{little_endian, items, members, canonical, canonical_items, canonical_members}
+use Rattle.json_text.specs.Content.{before, put, content, contents, sorted}
 use Rattle.content.specs.Theorems.{Fits}
-use Rattle.json.specs.Grammar.{Ws, no_ws, ws, Char, one, two, three, four, escaped, unicode, pair, Chars, mark, char, Name, name}
-use Rattle.json.specs.Grammar.{Val, a_null, a_true, a_false, a_number, a_string, empty_array, an_array, empty_object, an_object}
-use Rattle.json.specs.Grammar.{MoreItems, end_array, next_item, MoreMembers, end_object, next_member, text}
-use Rattle.json.specs.Values.{Value, array, object}
-use Rattle.json.specs.Values.{Items, no_items, item, Members, no_members, member}
+use Rattle.json_text.specs.Grammar.{Ws, no_ws, ws, Char, one, two, three, four, escaped, unicode, pair, Chars, mark, char, Name, name}
+use Rattle.json_text.specs.Grammar.{Val, a_null, a_true, a_false, a_number, a_string, empty_array, an_array, empty_object, an_object}
+use Rattle.json_text.specs.Grammar.{MoreItems, end_array, next_item, MoreMembers, end_object, next_member, text}
+use Rattle.json_text.specs.Values.{Value, array, object}
+use Rattle.json_text.specs.Values.{Items, no_items, item, Members, no_members, member}
 use Rattle.rules.proofs.Tests.{by_cond}
 use Rattle.content.proofs.NumberTexts.{number-longer}
 

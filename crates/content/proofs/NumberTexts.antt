@@ -7,9 +7,9 @@ use native.Mathlib.Omega.{arith}
 use borrow.Author.Tests.{eqb-true}
 use lib.Dec.{eqb}
 use lib.ListN.{length, length-append}
-use Rattle.json.specs.Numbers.{Digits, no_digits, digit, Digits1, digits, Minus, no_minus, minus, Int, zero, from_one}
-use Rattle.json.specs.Numbers.{Frac, no_frac, frac, Sign, no_sign, negative, positive, Exp, no_exp, exp, Number, number}
-use Rattle.json.proofs.Tests.{within-high, digit-high}
+use Rattle.json_text.specs.Numbers.{Digits, no_digits, digit, Digits1, digits, Minus, no_minus, minus, Int, zero, from_one}
+use Rattle.json_text.specs.Numbers.{Frac, no_frac, frac, Sign, no_sign, negative, positive, Exp, no_exp, exp, Number, number}
+use Rattle.json_text.proofs.Tests.{within-high, digit-high}
 
 -- bytes below FF
 abbrev pub Below : List ℕ → Type 0

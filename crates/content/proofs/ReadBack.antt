@@ -8,10 +8,10 @@ use native.Mathlib.Omega.{arith}
 use borrow.Author.Tests.{ne_eqb}
 use lib.Dec.{eqb}
 use lib.ListN.{length, drop, get_or}
-use Rattle.json.specs.Canonical.{little_endian, items, members, canonical, canonical_items, canonical_members}
-use Rattle.json.specs.Work.{up_to_ff}
-use Rattle.json.specs.Values.{Value, null, boolean, number, string, array, object}
-use Rattle.json.specs.Values.{Items, no_items, item, Members, no_members, member}
+use Rattle.json_text.specs.Canonical.{little_endian, items, members, canonical, canonical_items, canonical_members}
+use Rattle.json_text.specs.Work.{up_to_ff}
+use Rattle.json_text.specs.Values.{Value, null, boolean, number, string, array, object}
+use Rattle.json_text.specs.Values.{Items, no_items, item, Members, no_members, member}
 use Rattle.content.proofs.Clean.{Clean, CleanItems, CleanMembers}
 use Rattle.content.proofs.Fits.{array-length, object-length, item-length, member-length}
 use Rattle.content.proofs.NumberTexts.{Below}

@@ -4,11 +4,11 @@ use mathlib.Core.List.{List, [], ◌++◌}
 use Prim.Native.Nat.{ℕ, ◌≤◌}
 use native.Mathlib.Omega.{arith}
 use lib.ListN.{length}
-use Rattle.json.specs.Canonical.{canonical}
-use Rattle.json.specs.Content.{content}
+use Rattle.json_text.specs.Canonical.{canonical}
+use Rattle.json_text.specs.Content.{content}
 use Rattle.content.specs.Theorems.{SameContent}
-use Rattle.json.specs.Grammar.{Text, text}
-use Rattle.json.specs.Values.{Value}
+use Rattle.json_text.specs.Grammar.{Text, text}
+use Rattle.json_text.specs.Values.{Value}
 use Rattle.content.proofs.Clean.{Clean, clean}
 use Rattle.content.proofs.Fits.{fits}
 use Rattle.content.proofs.ReadBack.{read, read_back}

@@ -1,10 +1,10 @@
 -- What is proved of canonical bytes. The quoted words are request 4's.
 use Rattle.std.specs.Prelude.{◌≡◌, List, ◌↔◌, ℕ, ◌≤◌, length}
-use Rattle.json.specs.Grammar.{Text}
-use Rattle.json.specs.Refusals.{longest}
-use Rattle.json.specs.Values.{Value}
-use Rattle.json.specs.Content.{content}
-use Rattle.json.specs.Canonical.{canonical}
+use Rattle.json_text.specs.Grammar.{Text}
+use Rattle.json_text.specs.Refusals.{longest}
+use Rattle.json_text.specs.Values.{Value}
+use Rattle.json_text.specs.Content.{content}
+use Rattle.json_text.specs.Canonical.{canonical}
 
 -- "Two messages get equal bytes exactly when they hold the same content under these rules."
 abbrev pub SameContent : Type 0

@@ -12,7 +12,7 @@ use levels::{Reported, Set};
 use rules::Changed;
 
 // A side with its answer.
-#[derive(Drop)]
+#[derive(Clone, Copy)]
 struct Setting {
     side: Side,
     answer: Changed,

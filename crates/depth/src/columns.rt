@@ -5,7 +5,7 @@ ghost use Rattle.depth.specs.Value.{Split};
 use crate::Side;
 use levels::Level;
 
-#[derive(Drop)]
+#[derive(Clone, Copy)]
 pub struct Columns {
     pub prices: [u32; 512],
     pub sizes: [f64; 512],

@@ -1,6 +1,8 @@
 // The calls on a depth for a host in C or Rust. A side is two arrays of 512 and a count: the prices and the sizes of its levels, the best
 // last. The arrays and pointers of one call may not overlap. A call answers 1, or 0 where it is refused, with the refusal's number
 // behind its first pointer to a count.
+#![tactic(auto)]
+
 pub mod owned;
 pub mod reads;
 

@@ -1,4 +1,6 @@
 // Runs every public function on a depth by value, and writes what each answers.
+#![tactic(auto)]
+
 mod answers;
 
 use answers::{best, changed, prices, rising, say};

@@ -1,6 +1,8 @@
 // The calls for a host in C or Rust. A slice is a pointer and a length; the slices and pointers of one call may not overlap.
 // A call answers a code, with its counts behind pointers: crate codes says what they mean. The contracts are those of the calls, of
 // the answer that these numbers tell.
+#![tactic(auto)]
+
 ghost use Rattle.std.specs.Prelude.{◌≡◌};
 ghost use Rattle.rules.specs.Quantities.{key};
 ghost use Rattle.keys.specs.Keys.{key_of};

@@ -6,9 +6,9 @@ use mathlib.Core.Option.{none, some}
 use Prim.Native.Nat.{ℕ, ◌+◌, ◌≤◌, ◌<◌}
 use borrow.Author.Tests.{ne_eqb}
 use lib.ListN.{length, drop}
-use Rattle.json.specs.Work.{byte_at, skip_ws, name_rest}
-use Rattle.json.proofs.Bounds.{left_at, left-past}
-use Rattle.json.proofs.Places.{front-byte, behind-here}
+use Rattle.json_text.specs.Work.{byte_at, skip_ws, name_rest}
+use Rattle.json_text.proofs.Bounds.{left_at, left-past}
+use Rattle.json_text.proofs.Places.{front-byte, behind-here}
 use Rattle.json_check.specs.Runs.{go, done, bad, value, after, after_item, after_member, of_after}
 
 -- by the byte b at the place i; k are the brackets around the innermost, l those that are then open

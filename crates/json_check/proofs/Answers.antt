@@ -3,7 +3,7 @@ use mathlib.Core.Path.{◌≡◌}
 use mathlib.Core.List.{List}
 use Prim.Native.Nat.{ℕ, ◌≤◌}
 use lib.ListN.{length}
-use Rattle.json.specs.Refusals.{longest, Judged, no_text, judged}
+use Rattle.json_text.specs.Refusals.{longest, Judged, no_text, judged}
 use Rattle.json_check.specs.declared.Reading.{Reading}
 use Rattle.json_check.specs.declared.Reading.TheVariants as Reading
 use Rattle.json_check.specs.Runs.{Run, start}

@@ -7,13 +7,13 @@ use native.Mathlib.Omega.{arith}
 use lib.Dec.{eqb}
 use lib.ListN.{drop}
 use borrow.Author.Tests.{eqb-true, ne_eqb}
-use Rattle.json.specs.Bytes.{within, is_ws, is_digit}
-use Rattle.json.specs.Grammar.{ws, name, Val}
-use Rattle.json.specs.Grammar.{a_null, a_true, a_false, a_number, a_string, empty_array, an_array, empty_object, an_object}
-use Rattle.json.specs.Refusals.{first}
-use Rattle.json.specs.Values.{Value}
-use Rattle.json.specs.Work.{byte_at}
-use Rattle.json.proofs.NumberLaws.{number-front}
+use Rattle.json_text.specs.Bytes.{within, is_ws, is_digit}
+use Rattle.json_text.specs.Grammar.{ws, name, Val}
+use Rattle.json_text.specs.Grammar.{a_null, a_true, a_false, a_number, a_string, empty_array, an_array, empty_object, an_object}
+use Rattle.json_text.specs.Refusals.{first}
+use Rattle.json_text.specs.Values.{Value}
+use Rattle.json_text.specs.Work.{byte_at}
+use Rattle.json_text.proofs.NumberLaws.{number-front}
 
 -- ---- the first of faults
 pub first-zero : (g : ℕ) → first g 0 ≡ g

@@ -7,10 +7,10 @@ use Prim.Native.Nat.{ℕ}
 use native.Mathlib.Omega.{arith}
 use lib.Dec.{eqb}
 use lib.ListN.{drop}
-use Rattle.json.specs.Grammar.{Val, a_null, a_true, a_false}
-use Rattle.json.specs.Refusals.{fault}
-use Rattle.json.specs.Values.{Value, null, boolean}
-use Rattle.json.specs.Work.{byte_at, word_rest, literal_rest}
+use Rattle.json_text.specs.Grammar.{Val, a_null, a_true, a_false}
+use Rattle.json_text.specs.Refusals.{fault}
+use Rattle.json_text.specs.Values.{Value, null, boolean}
+use Rattle.json_text.specs.Work.{byte_at, word_rest, literal_rest}
 use Rattle.json_check.proofs.Fronts.{begins}
 
 no-rest : {A : Type 0} (r : List ℕ) → none ≡ some r → A

@@ -6,7 +6,7 @@ use mathlib.Core.Option.{Option, none, some}
 use Prim.Native.Nat.{ℕ, suc, ◌-◌, ◌≤◌, ◌<◌}
 use native.Mathlib.Omega.{arith}
 use lib.ListN.{length, drop}
-use Rattle.json.specs.Work.{skip_ws}
+use Rattle.json_text.specs.Work.{skip_ws}
 use Rattle.json_check.specs.declared.Place.{Place}
 use Rattle.json_check.specs.declared.Step.{Step}
 use Rattle.json_check.specs.declared.Step.TheVariants as Step

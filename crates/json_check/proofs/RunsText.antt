@@ -6,19 +6,19 @@ use mathlib.Core.Option.{Option, none, some}
 use Prim.Native.Nat.{ℕ, suc}
 use lib.Dec.{eqb}
 use lib.ListN.{length, drop}
-use Rattle.json.specs.Bytes.{is_digit}
-use Rattle.json.specs.Grammar.{Ws, Val, MoreItems, end_array, next_item, MoreMembers, end_object, next_member, Text, text}
-use Rattle.json.specs.Grammar.{a_number, a_string, empty_array, an_array, empty_object, an_object}
-use Rattle.json.specs.Refusals.{number_fault, depth_fault, first, fault, items_fault, members_fault}
+use Rattle.json_text.specs.Bytes.{is_digit}
+use Rattle.json_text.specs.Grammar.{Ws, Val, MoreItems, end_array, next_item, MoreMembers, end_object, next_member, Text, text}
+use Rattle.json_text.specs.Grammar.{a_number, a_string, empty_array, an_array, empty_object, an_object}
+use Rattle.json_text.specs.Refusals.{number_fault, depth_fault, first, fault, items_fault, members_fault}
 use Rattle.json_check.specs.Runs.{State, value, after, Next, go, done, bad, onward, no_more, Run, ended, goes, start, next}
 use Rattle.json_check.specs.Runs.{in_array, in_object, of_string, of_number, of_literal, of_value, after_item, after_member, of_after}
-use Rattle.json.specs.Values.{Value, number, string, array, object}
-use Rattle.json.specs.Values.{Items, no_items, item, Members, no_members, member}
-use Rattle.json.specs.Work.{byte_at, skip_ws, up_to, literal_rest, name_rest, number_rest, chars_rest}
-use Rattle.json.proofs.Spaces.{skips-ws}
-use Rattle.json.proofs.CharsLaws.{rest-chars}
-use Rattle.json.proofs.NumberLaws.{rest-number, number_read}
-use Rattle.json.proofs.NameLaws.{rest-name}
+use Rattle.json_text.specs.Values.{Value, number, string, array, object}
+use Rattle.json_text.specs.Values.{Items, no_items, item, Members, no_members, member}
+use Rattle.json_text.specs.Work.{byte_at, skip_ws, up_to, literal_rest, name_rest, number_rest, chars_rest}
+use Rattle.json_text.proofs.Spaces.{skips-ws}
+use Rattle.json_text.proofs.CharsLaws.{rest-chars}
+use Rattle.json_text.proofs.NumberLaws.{rest-number, number_read}
+use Rattle.json_text.proofs.NameLaws.{rest-name}
 use Rattle.json_check.proofs.Fronts.{first-zero, first-assoc, begins}
 use Rattle.json_check.proofs.Literals.{rest-literal}
 

@@ -6,21 +6,21 @@ use mathlib.Core.Option.{Option, none, some}
 use Prim.Native.Nat.{ℕ, suc}
 use native.Mathlib.Omega.{arith}
 use lib.ListN.{length}
-use Rattle.json.specs.Bytes.{within, is_ws, is_digit}
-use Rattle.json.specs.Numbers.{Number}
-use Rattle.json.specs.Grammar.{Ws, Chars, Name, Val, MoreItems, end_array, next_item, MoreMembers, end_object, next_member, Text, text}
-use Rattle.json.specs.Grammar.{a_null, a_true, a_false, a_number, a_string, empty_array, an_array, empty_object, an_object}
-use Rattle.json.specs.Refusals.{number_fault, depth_fault, first, fault, items_fault, members_fault}
+use Rattle.json_text.specs.Bytes.{within, is_ws, is_digit}
+use Rattle.json_text.specs.Numbers.{Number}
+use Rattle.json_text.specs.Grammar.{Ws, Chars, Name, Val, MoreItems, end_array, next_item, MoreMembers, end_object, next_member, Text, text}
+use Rattle.json_text.specs.Grammar.{a_null, a_true, a_false, a_number, a_string, empty_array, an_array, empty_object, an_object}
+use Rattle.json_text.specs.Refusals.{number_fault, depth_fault, first, fault, items_fault, members_fault}
 use Rattle.json_check.specs.Runs.{State, value, after, go, Run, ended, stopped, goes, start, next}
 use Rattle.json_check.specs.Runs.{in_array, in_object, of_string, of_number, of_literal, of_value, after_item, after_member, of_after}
-use Rattle.json.specs.Values.{Value, Items, Members}
-use Rattle.json.specs.Work.{byte_at, skip_ws, up_to, word_rest, literal_rest}
-use Rattle.json.proofs.Spaces.{ws-skips, skip-front}
-use Rattle.json.proofs.CharsLaws.{chars_rest}
-use Rattle.json.proofs.NumberLaws.{number-rest, number-front, up-to-append}
-use Rattle.json.specs.Work.{goes_on}
-use Rattle.json.proofs.NameLaws.{name-rest}
-use Rattle.json.proofs.Fronts.{name-mark, ws-ends, items-ends, members-ends}
+use Rattle.json_text.specs.Values.{Value, Items, Members}
+use Rattle.json_text.specs.Work.{byte_at, skip_ws, up_to, word_rest, literal_rest}
+use Rattle.json_text.proofs.Spaces.{ws-skips, skip-front}
+use Rattle.json_text.proofs.CharsLaws.{chars_rest}
+use Rattle.json_text.proofs.NumberLaws.{number-rest, number-front, up-to-append}
+use Rattle.json_text.specs.Work.{goes_on}
+use Rattle.json_text.proofs.NameLaws.{name-rest}
+use Rattle.json_text.proofs.Fronts.{name-mark, ws-ends, items-ends, members-ends}
 use Rattle.json_check.proofs.Fronts.{first-zero, first-assoc, apart, numeric, val-front}
 
 -- ---- the steps

@@ -7,10 +7,10 @@ use Prim.Native.Nat.{ℕ, ◌+◌, ◌-◌, ◌≤◌}
 use native.Mathlib.Omega.{arith}
 use borrow.Author.Tests.{ne_eqb}
 use lib.ListN.{length, take, drop, length-drop}
-use Rattle.json.specs.Bytes.{within, is_digit}
-use Rattle.json.specs.Refusals.{number_fault, depth_fault, first}
-use Rattle.json.specs.Work.{byte_at, skip_ws, chars_rest, number_rest, up_to, literal_rest, name_rest}
-use Rattle.json.proofs.Places.{front-byte, behind-here}
+use Rattle.json_text.specs.Bytes.{within, is_digit}
+use Rattle.json_text.specs.Refusals.{number_fault, depth_fault, first}
+use Rattle.json_text.specs.Work.{byte_at, skip_ws, chars_rest, number_rest, up_to, literal_rest, name_rest}
+use Rattle.json_text.proofs.Places.{front-byte, behind-here}
 use Rattle.json_check.specs.Runs.{go, bad, value, after}
 use Rattle.json_check.specs.Runs.{in_array, in_object, of_string, of_number, of_literal, of_value}
 

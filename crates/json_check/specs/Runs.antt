@@ -1,9 +1,9 @@
 -- Reading a text from its front, one value, bracket or comma at a time. The proofs show that this reads what the grammar has.
 use Rattle.std.specs.Prelude.{◌≡◌, Bool, true, false, ◌||◌, cond, List, [], ◌∷◌, ℕ, eqb, length, drop}
 use Rattle.std.proofs.Math.Option.{Option, none, some}
-use Rattle.json.specs.Bytes.{is_digit}
-use Rattle.json.specs.Refusals.{number_fault, depth_fault, first}
-use Rattle.json.specs.Work.{byte_at, skip_ws, chars_rest, number_rest, up_to, literal_rest, name_rest}
+use Rattle.json_text.specs.Bytes.{is_digit}
+use Rattle.json_text.specs.Refusals.{number_fault, depth_fault, first}
+use Rattle.json_text.specs.Work.{byte_at, skip_ws, chars_rest, number_rest, up_to, literal_rest, name_rest}
 
 -- The brackets that are open, the innermost first (true for an array), what is left of the text, and the first fault so far.
 pub data State : Type 0 where

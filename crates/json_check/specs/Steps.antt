@@ -1,7 +1,7 @@
 -- The code's places and answers, read as states.
 use Rattle.std.specs.Prelude.{◌≡◌, Bool, List, reverse, ℕ, ◌≤◌, ◌<◌, length, take, drop}
 use Rattle.std.proofs.Math.Option.{Option, none, some}
-use Rattle.json.specs.Refusals.{longest}
+use Rattle.json_text.specs.Refusals.{longest}
 use Rattle.json_check.specs.declared.Place.{Place}
 use Rattle.json_check.specs.declared.Step.{Step}
 use Rattle.json_check.specs.declared.Step.TheVariants as Step

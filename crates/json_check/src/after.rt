@@ -1,14 +1,14 @@
 // One step behind a value.
 ghost use Rattle.std.specs.Prelude.{◌≡◌, Bool, true, false, List, ◌∷◌, ◌+◌, ◌≤◌, ◌<◌, length, drop, get_or};
-ghost use Rattle.json.specs.Refusals.{longest};
-ghost use Rattle.json.specs.Work.{skip_ws};
+ghost use Rattle.json_text.specs.Refusals.{longest};
+ghost use Rattle.json_text.specs.Work.{skip_ws};
 ghost use Rattle.json_check.specs.Runs.{after_item, after_member, of_after};
 ghost use Rattle.json_check.specs.Steps.{stack, Inside, Ready, Stepped};
 
 use crate::{Place, Step};
-use json::End;
-use json::bytes::{byte, skip_ws};
-use json::names::name_end;
+use json_text::End;
+use json_text::bytes::{byte, skip_ws};
+use json_text::names::name_end;
 
 // Behind an item of the innermost array and its ws: out of the array, or to its next item.
 fn item_step(text: &[u8], p: Place) -> Step

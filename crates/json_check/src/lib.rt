@@ -1,6 +1,8 @@
 // The answers 15, 16 and 17 of request 4, for whatever bytes come.
+#![tactic(auto)]
+
 ghost use Rattle.std.specs.Prelude.{◌≡◌, ◌≤◌, length};
-ghost use Rattle.json.specs.Refusals.{longest, Judged};
+ghost use Rattle.json_text.specs.Refusals.{longest, Judged};
 
 use read::read_text;
 
@@ -9,7 +11,7 @@ mod read;
 mod values;
 
 // A place in a text: how many brackets are open there, and the first fault in front of it, 0 for none.
-#[derive(Drop)]
+#[derive(Clone, Copy)]
 pub struct Place {
     pub at: usize,
     pub depth: usize,
@@ -17,7 +19,7 @@ pub struct Place {
 }
 
 // Where reading goes on: at a value, or behind one; or how it ends: with the first fault of the text, or because it is no text.
-#[derive(Drop)]
+#[derive(Clone, Copy)]
 pub enum Step {
     Value(Place),
     After(Place),
@@ -26,7 +28,7 @@ pub enum Step {
 }
 
 // A text by its first fault, 0 for none; or no text.
-#[derive(Drop)]
+#[derive(Clone, Copy)]
 pub enum Reading {
     Text(u64),
     NoText,

@@ -1,13 +1,13 @@
 // A whole text, step by step.
 ghost use Rattle.std.specs.Prelude.{◌≡◌, ◌≤◌, length};
-ghost use Rattle.json.specs.Refusals.{longest};
+ghost use Rattle.json_text.specs.Refusals.{longest};
 ghost use Rattle.json_check.specs.Runs.{Run, start};
 ghost use Rattle.json_check.specs.Steps.{found};
 
 use crate::after::after_step;
 use crate::values::value_step;
 use crate::{Place, Reading, Step};
-use json::bytes::skip_ws;
+use json_text::bytes::skip_ws;
 
 pub fn read_text(text: &[u8], opened: &mut [bool]) -> Reading
     requires { (length text.now ≤ longest) × (length text.now ≤ length opened.old) }

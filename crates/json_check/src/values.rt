@@ -1,16 +1,16 @@
 // One step at a value: past it, or into it where it is an array or an object.
 ghost use Rattle.std.specs.Prelude.{◌≡◌, Bool, List, ◌+◌, ◌-◌, ◌≤◌, ◌<◌, length, take, drop};
-ghost use Rattle.json.specs.Refusals.{longest, number_fault, depth_fault, first};
-ghost use Rattle.json.specs.Work.{skip_ws};
+ghost use Rattle.json_text.specs.Refusals.{longest, number_fault, depth_fault, first};
+ghost use Rattle.json_text.specs.Work.{skip_ws};
 ghost use Rattle.json_check.specs.Runs.{in_array, in_object, of_string, of_number, of_literal, of_value};
 ghost use Rattle.json_check.specs.Steps.{stack, Inside, Ready, Stepped};
 
 use crate::{Place, Step};
-use json::End;
-use json::bytes::{byte, is_digit, skip_ws};
-use json::names::{literal_end, name_end};
-use json::numbers::{number_allowed, number_end};
-use json::strings::string_end;
+use json_text::End;
+use json_text::bytes::{byte, is_digit, skip_ws};
+use json_text::names::{literal_end, name_end};
+use json_text::numbers::{number_allowed, number_end};
+use json_text::strings::string_end;
 
 fn first(found: u64, fault: u64) -> u64
     ensures { result ≡ first found fault }

@@ -1,9 +1,11 @@
 // The calls on JSON messages for a host in C or Rust. The slices and pointers of one call may not overlap. A call answers 1, or 0 where it
 // is refused, with the refusal's number behind its first pointer to a number.
+#![tactic(auto)]
+
 ghost use Rattle.canonical.specs.Calls.{Answered};
 ghost use Rattle.canonical.specs.declared.Answer.{Answer};
 ghost use Rattle.message_keys.specs.declared.Keyed.{Keyed};
-ghost use Rattle.json.specs.Refusals.{Judged};
+ghost use Rattle.json_text.specs.Refusals.{Judged};
 ghost use Rattle.json_exports.specs.Told.{Tells, TellsKey};
 ghost use Rattle.message_keys.specs.Keyed.{Answers};
 

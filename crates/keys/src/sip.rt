@@ -3,7 +3,7 @@ ghost use Rattle.std.specs.Prelude.{◌≡◌, ◌+◌, ◌*◌, ◌%◌, ◌^�
 ghost use Rattle.keys.specs.Sip.{rotated, initial, sip_round, compressed, finalized};
 
 // The four words of internal state.
-#[derive(Drop)]
+#[derive(Clone, Copy)]
 pub struct State {
     pub v0: u64,
     pub v1: u64,

@@ -1,5 +1,7 @@
 // Writes a line for each of the messages that the rules below make: its length, and the two words of its key. The file stdout
 // has what Rust's standard hasher makes of the same messages (tests/keys).
+#![tactic(auto)]
+
 ghost use Rattle.std.specs.Prelude.{◌≡◌, ◌≤◌, length};
 
 // The line of one message.

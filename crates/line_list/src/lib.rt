@@ -1,4 +1,6 @@
 // The moves that change the list of lines of a store.
+#![tactic(auto)]
+
 ghost use Rattle.std.specs.Prelude.{◌≡◌, false, not, ◌&&◌, ◌<◌, leb, eqb, length};
 ghost use Rattle.rules.specs.Lists.{keep, any, index};
 ghost use Rattle.rules.specs.Lines.{conn_at, with_lines, set_line, subscribed};

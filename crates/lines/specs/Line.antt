@@ -10,7 +10,7 @@ use Rattle.rules.specs.Lines as Rules
 use Rattle.rules.specs.Lines.{items_of, snapshot_of}
 use Rattle.rules.specs.Calls.{apply, duplicate, held, ignored, diverged, failed, due_for, due_ends}
 use Rattle.rules.specs.Answers.{Said, number, word, of_step}
-use Rattle.log.specs.Answers.{quiet_stamp}
+use Rattle.event_log.specs.Answers.{quiet_stamp}
 use Rattle.place.specs.Items.{items_in}
 use Rattle.lines.specs.declared.Line.{Line}
 use Rattle.lines.specs.declared.Line.TheVariants as Line

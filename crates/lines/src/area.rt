@@ -147,7 +147,7 @@ fn has_key(prints: &[u64], i: usize, key: EventKey) -> bool
     ensures { result ≡ same (print_in prints.now i).0 key }
 {
     let p = 3 * i;
-    log::same_key(EventKey(prints[p], prints[p + 1]), key)
+    event_log::same_key(EventKey(prints[p], prints[p + 1]), key)
 }
 
 // Whether a print of this key is among the first n.
@@ -176,7 +176,7 @@ pub fn holds_print(area: &[u64], h: usize, key: EventKey) -> bool
     among(&area[a..e], n, key)
 }
 
-#[derive(Drop)]
+#[derive(Clone, Copy)]
 pub struct HeldPrint {
     pub key: EventKey,
     pub message: u64,

@@ -1,4 +1,6 @@
 // A connection's line, by value: its methods take it and hand it back. Its items lie in a lent area.
+#![tactic(auto)]
+
 pub mod area;
 pub mod steps;
 
@@ -15,7 +17,7 @@ ghost use Rattle.lines.specs.Line.{line_of, held_of, holding, complete, holds_bo
 
 use rules::{Stamp, Step};
 
-#[derive(Drop)]
+#[derive(Clone, Copy)]
 pub enum Line {
     // Subscribed; how many items came so far.
     Waiting {
@@ -39,14 +41,14 @@ pub enum Line {
 }
 
 // A line that took a step, and its answer.
-#[derive(Drop)]
+#[derive(Clone, Copy)]
 pub struct Stepped {
     pub line: Line,
     pub step: Step,
 }
 
 // What time makes of a line; or that the market is rebuilt from it.
-#[derive(Drop)]
+#[derive(Clone, Copy)]
 pub enum Aging {
     Stays,
     Fails,
@@ -54,14 +56,14 @@ pub enum Aging {
 }
 
 // A line as time left it.
-#[derive(Drop)]
+#[derive(Clone, Copy)]
 pub struct Aged {
     pub line: Line,
     pub aging: Aging,
 }
 
 // A line's claim to be the source of a new book: pending with a snapshot before waiting with one, then the later time.
-#[derive(Drop)]
+#[derive(Clone, Copy)]
 pub enum Claim {
     Nothing,
     Of { pending: u64, time: u64 },
@@ -234,7 +236,7 @@ impl Line {
     {
         match self {
             Line::Waiting { .. } => false,
-            Line::Pending { snapshot, .. } => log::quiet(snapshot, t, false),
+            Line::Pending { snapshot, .. } => event_log::quiet(snapshot, t, false),
             Line::InLine { .. } => false,
             Line::Failed => false,
         }

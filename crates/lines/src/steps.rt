@@ -2,12 +2,12 @@
 ghost use Rattle.std.specs.Prelude.{◌≡◌, List, ℕ, ◌+◌, ◌*◌, ◌≤◌, ◌<◌, ◌^◌, length};
 ghost use Rattle.rules.specs.Quantities.{Key, same};
 ghost use Rattle.rules.specs.Lines as Rules;
-ghost use Rattle.log.specs.Log.{keys_of, Ring};
+ghost use Rattle.event_log.specs.Log.{keys_of, Ring};
 ghost use Rattle.place.specs.Items.{items_in};
 ghost use Rattle.lines.specs.Line.{line_of, Steps, Ages, copy_step, end_step, event_step, snapshot_step, time_step};
 
 use crate::{Aged, Aging, Line, Stepped};
-use log::{Head, KeyAt};
+use event_log::{Head, KeyAt};
 use rules::{EventKey, Stamp, Step};
 
 // A line that has not entered line by this age ends.
@@ -60,7 +60,7 @@ impl Line {
     {
         match self {
             Line::Waiting { since, .. } => {
-                if log::age(t, since) < ALIGN_TIMEOUT {
+                if event_log::age(t, since) < ALIGN_TIMEOUT {
                     return Aging::Stays;
                 }
                 Aging::Fails
@@ -70,7 +70,7 @@ impl Line {
                 since,
                 ..
             } => {
-                if log::age(t, since) < ALIGN_TIMEOUT {
+                if event_log::age(t, since) < ALIGN_TIMEOUT {
                     return Aging::Stays;
                 }
                 match snapshot {
@@ -199,7 +199,7 @@ fn in_log(number: u64, due0: bool, due1: bool, there: EventKey, key: EventKey) -
     requires { number + 1 < 2 ^ 64 }
     ensures { Steps result (copy_step (same there key) number due0 due1) }
 {
-    if log::same_key(there, key) {
+    if event_log::same_key(there, key) {
         return Stepped {
             line: Line::InLine {
                 next: number + 1,

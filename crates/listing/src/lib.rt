@@ -1,11 +1,13 @@
 // The replay program's text: 44-byte records as calls, and what the calls answer as lines.
+#![tactic(auto)]
+
 use rules::EventKey;
 
 pub mod reading;
 pub mod writing;
 
 // Why bytes are no record.
-#[derive(Drop)]
+#[derive(Clone, Copy)]
 pub enum Fault {
     Short,
     Mark,
@@ -13,7 +15,7 @@ pub enum Fault {
 }
 
 // A record's call, with the fields that it uses.
-#[derive(Drop)]
+#[derive(Clone, Copy)]
 pub enum Call {
     // connection, time
     Subscribe(u64, u64),
@@ -32,7 +34,7 @@ pub enum Call {
 }
 
 // What bytes are read as.
-#[derive(Drop)]
+#[derive(Clone, Copy)]
 pub enum Record {
     Of(Call),
     Bad(Fault),

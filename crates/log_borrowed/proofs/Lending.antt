@@ -13,9 +13,9 @@ use denote.Laws.{Is, shows}
 use denote.Steps.{owned}
 use denote.Struct.Steps.{spelt}
 use denote.Struct.Laws as LL
-use Rattle.log.specs.declared.Head.{Head}
-use Rattle.log.specs.contracts.Head as T
-use Rattle.log.proofs.Head.TheLaws as T'
+use Rattle.event_log.specs.declared.Head.{Head}
+use Rattle.event_log.specs.contracts.Head as T
+use Rattle.event_log.proofs.Head.TheLaws as T'
 
 abbrev pub machine : Head → Val
 machine h = LL.tuple_val T.the_type T'.the_laws ((T.the_type).to h)

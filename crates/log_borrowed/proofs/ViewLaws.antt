@@ -9,11 +9,11 @@ use native.Mathlib.Omega.{arith}
 use Rattle.rules.specs.Quantities.{Key, same}
 use Rattle.rules.specs.Log.{keys, key_at}
 use Rattle.words.proofs.Cases.{below_or}
-use Rattle.log.specs.Log.{key_in, entry_place, keys_of}
-use Rattle.log.specs.Answers.{key_answer, match_answer}
-use Rattle.log.specs.declared.KeyAt.TheVariants as KeyAt
-use Rattle.log.specs.declared.Matched.TheVariants as Matched
-use Rattle.log.proofs.Search.{number-before, number_in, number_past}
+use Rattle.event_log.specs.Log.{key_in, entry_place, keys_of}
+use Rattle.event_log.specs.Answers.{key_answer, match_answer}
+use Rattle.event_log.specs.declared.KeyAt.TheVariants as KeyAt
+use Rattle.event_log.specs.declared.Matched.TheVariants as Matched
+use Rattle.event_log.proofs.Search.{number-before, number_in, number_past}
 use Rattle.log_borrowed.specs.View.{view_of}
 
 keys-back : (ks : List Key) → map (λ (e : Key × ℕ). e.0) (map (λ (k : Key). (k, 0)) ks) ≡ ks

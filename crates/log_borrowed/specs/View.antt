@@ -2,7 +2,7 @@
 use Rattle.std.specs.Prelude.{List, map, ℕ}
 use Rattle.rules.specs.Log.{Log}
 use Rattle.rules.specs.declared.Stamp.TheVariants as Stamp
-use Rattle.log.specs.Log.{keys_of}
+use Rattle.event_log.specs.Log.{keys_of}
 
 -- a log with these keys, numbered from base; a view has no times and no last-applied
 abbrev pub view_of : List ℕ → ℕ → ℕ → ℕ → ℕ → Log

@@ -1,9 +1,9 @@
 // The head lent and changed in place.
 ghost use Rattle.std.specs.Prelude.{◌≡◌, List, ℕ, ◌+◌, ◌<◌, ◌^◌};
 ghost use Rattle.rules.specs.Log.{push, clear};
-ghost use Rattle.log.specs.Log.{log_of, Fit};
+ghost use Rattle.event_log.specs.Log.{log_of, Fit};
 
-use log::Head;
+use event_log::Head;
 use rules::{EventKey, Stamp};
 
 // Adds an entry behind the last and sets last-applied.
@@ -14,7 +14,7 @@ pub fn push(area: &mut [u64], g: usize, head: &mut Head, key: EventKey, t: u64)
         × ((head.new.base ≡ head.old.base) × (head.new.count ≡ head.old.count + 1)) }
 {
     let n = head.count;
-    log::put(area, g, head.front, n, key, t);
+    event_log::put(area, g, head.front, n, key, t);
     head.count = n + 1;
     head.last = Stamp::At(t);
 }

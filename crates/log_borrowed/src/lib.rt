@@ -1,3 +1,5 @@
 // The log's borrowed forms: the head lent and changed in place, and a view of the log's keys. A caller passes plain values.
+#![tactic(auto)]
+
 pub mod lent;
 pub mod view;

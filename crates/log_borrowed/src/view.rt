@@ -1,15 +1,15 @@
 // A view of the log: its keys' slice and base, how many entries it has, and the front's place.
 ghost use Rattle.std.specs.Prelude.{◌≡◌};
 ghost use Rattle.rules.specs.Log.{key_at};
-ghost use Rattle.log.specs.Log.{Ring};
-ghost use Rattle.log.specs.Answers.{key_answer, match_answer};
+ghost use Rattle.event_log.specs.Log.{Ring};
+ghost use Rattle.event_log.specs.Answers.{key_answer, match_answer};
 ghost use Rattle.log_borrowed.specs.View.{view_of};
 
-use log::{KeyAt, Matched};
+use event_log::{KeyAt, Matched};
 use rules::EventKey;
 
 // The words of g keys, the number of the first entry, how many entries there are, and where the first stands.
-#[derive(Drop)]
+#[derive(Clone, Copy)]
 pub struct LogView<'a> {
     pub keys: &'a [u64],
     pub base: u64,
@@ -27,8 +27,8 @@ pub fn key_in_keys(keys: &[u64], base: u64, count: usize, front: usize, g: usize
         return KeyAt::Nowhere;
     }
     if n - base < count as u64 {
-        let p = log::place(g, front, (n - base) as usize);
-        return KeyAt::Key(log::key_in(keys, p));
+        let p = event_log::place(g, front, (n - base) as usize);
+        return KeyAt::Key(event_log::key_in(keys, p));
     }
     KeyAt::Nowhere
 }
@@ -79,7 +79,7 @@ pub fn match_in_keys(
 {
     match key_in_keys(keys, base, count, front, g, n) {
         KeyAt::Key(there) => {
-            if log::same_key(there, key) {
+            if event_log::same_key(there, key) {
                 Matched::Same
             } else {
                 Matched::Differs

@@ -17,8 +17,8 @@ use Rattle.rules.specs.Calls.{apply, held, full_numbers}
 use Rattle.rules.specs.Answers.{Said, number, word}
 use Rattle.rules.specs.Sound.{LineSound}
 use Rattle.rules.proofs.Tests.{leb-true, by_cond}
-use Rattle.log.specs.declared.Head.{Head}
-use Rattle.log.specs.Log.{keys_of, Ring}
+use Rattle.event_log.specs.declared.Head.{Head}
+use Rattle.event_log.specs.Log.{keys_of, Ring}
 use Rattle.lines.specs.declared.Line.{Line}
 use Rattle.lines.specs.declared.Stepped.{Stepped}
 use Rattle.lines.specs.Line.{line_of, Steps, event_step}

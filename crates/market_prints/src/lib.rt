@@ -1,4 +1,6 @@
 // The print, on a sound store.
+#![tactic(auto)]
+
 ghost use Rattle.std.specs.Prelude.{◌≡◌, List, ℕ, ◌<◌, ◌≤◌};
 ghost use Rattle.rules.specs.Quantities.{max_count};
 ghost use Rattle.rules.specs.Lines.{line_of, conn_at};

@@ -1,4 +1,6 @@
 // The snapshot, on a sound store.
+#![tactic(auto)]
+
 ghost use Rattle.std.specs.Prelude.{◌≡◌, ℕ, ◌≤◌, ◌<◌};
 ghost use Rattle.rules.specs.Lines.{line_of, line_for};
 ghost use Rattle.rules.specs.Calls as Rules;

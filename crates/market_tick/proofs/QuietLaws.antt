@@ -18,8 +18,8 @@ use Rattle.rules.proofs.SoundMoves.{sum-set}
 use Rattle.place.specs.declared.Place.{Place}
 use Rattle.place.specs.declared.Place.TheVariants as Place
 use Rattle.place.specs.Items.{place_of}
-use Rattle.log.specs.declared.Head.{Head}
-use Rattle.log.specs.Answers.{quiet_stamp}
+use Rattle.event_log.specs.declared.Head.{Head}
+use Rattle.event_log.specs.Answers.{quiet_stamp}
 use Rattle.lines.specs.Line.{snapshot_quiet}
 use Rattle.store.specs.Store.{head_of, line_count, market_of}
 use Rattle.store.specs.ConnMoves.{NotFailed}

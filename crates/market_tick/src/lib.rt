@@ -1,4 +1,6 @@
 // The tick, on a sound store.
+#![tactic(auto)]
+
 ghost use Rattle.std.specs.Prelude.{◌≡◌, List, false, true, ℕ, ◌+◌, ◌*◌, ◌≤◌, ◌<◌, length};
 ghost use Rattle.rules.specs.Lines.{Failed, conn_at, items_of};
 ghost use Rattle.rules.specs.Entering.{sweep, try_line_up};
@@ -18,7 +20,7 @@ use place::Place;
 use rules::{Expired, Ticked};
 
 // A tick under way: how many records and reports there are, and whether it has stopped.
-#[derive(Drop)]
+#[derive(Clone, Copy)]
 pub struct Turned {
     pub n: usize,
     pub m: usize,
@@ -26,7 +28,7 @@ pub struct Turned {
 }
 
 // How a line may line up in its turn: by its events, quietly, or not.
-#[derive(Drop)]
+#[derive(Clone, Copy)]
 pub enum Way {
     Aligns,
     Quietly,
@@ -139,7 +141,7 @@ fn quietly(s: &[u64], i: usize, same: bool, t: u64) -> bool
 {
     let head = store::entries::head(s);
     let last = head.last;
-    if log::quiet(last, t, true) {
+    if event_log::quiet(last, t, true) {
         if store::conns::line_at(s, i).quiet(t) {
             if same {
                 return fits_quietly(s, i);

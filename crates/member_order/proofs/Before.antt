@@ -7,7 +7,7 @@ use native.Mathlib.Omega.{arith}
 use lib.Dec.{ltb}
 use borrow.Author.Tests.{ltb-true, ltb-false, lt-ltb, le-ltb}
 use Rattle.rules.proofs.Tests.{ff≢tt}
-use Rattle.json.specs.Content.{before}
+use Rattle.json_text.specs.Content.{before}
 use Rattle.member_order.specs.declared.compare.Order.{Order}
 use Rattle.member_order.specs.declared.compare.Order.TheVariants as Order
 use Rattle.member_order.specs.Names.{pick_order, order_of}

@@ -7,7 +7,7 @@ use native.Mathlib.Omega.{arith}
 use borrow.Author.Tests.{ltb-true, ltb-false}
 use lib.Dec.{ltb}
 use lib.ListN.{drop}
-use Rattle.json.specs.Content.{before}
+use Rattle.json_text.specs.Content.{before}
 use Rattle.member_order.specs.Codes.{digit, code_from, Digits, CodeOf}
 use Rattle.member_order.specs.Names.{order_of}
 use Rattle.member_order.specs.Order.{pick_by}

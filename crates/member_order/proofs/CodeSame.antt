@@ -6,7 +6,7 @@ use native.Mathlib.Numerals.{one-add}
 use native.Mathlib.Omega.{arith}
 use lib.ListN.{drop}
 use lib.Seq.{drop-drop}
-use Rattle.json.specs.Content.{before}
+use Rattle.json_text.specs.Content.{before}
 use Rattle.member_order.specs.declared.compare.Order.TheVariants as Order
 use Rattle.member_order.specs.Codes.{digit, code_from, Digits, CodeOf, name_of, Coded}
 use Rattle.member_order.specs.Names.{name_in, order_of}

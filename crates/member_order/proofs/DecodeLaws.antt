@@ -7,11 +7,11 @@ use native.Mathlib.Omega.{arith}
 use borrow.Author.Tests.{ltb-true}
 use lib.Dec.{ltb, eqb}
 use lib.ListN.{length, take, drop, length-take, length-drop}
-use Rattle.json.specs.Bytes.{within, plain, tail, first_of_three, first_of_four, escape_of, is_scalar, is_high, is_low}
-use Rattle.json.specs.Work.{byte_at, hex_at, pair_len, escape_len, utf8_len, char_len}
-use Rattle.json.proofs.Bounds.{byte-drop}
-use Rattle.json.proofs.CharSteps.{char-fits}
-use Rattle.json.proofs.Tests.{within_low, within-high}
+use Rattle.json_text.specs.Bytes.{within, plain, tail, first_of_three, first_of_four, escape_of, is_scalar, is_high, is_low}
+use Rattle.json_text.specs.Work.{byte_at, hex_at, pair_len, escape_len, utf8_len, char_len}
+use Rattle.json_text.proofs.Bounds.{byte-drop}
+use Rattle.json_text.proofs.CharSteps.{char-fits}
+use Rattle.json_text.proofs.Tests.{within_low, within-high}
 use Rattle.rules.proofs.Tests.{ff≢tt, by_cond, and-true-left, and-true-right}
 use Rattle.member_order.specs.declared.names.Decoded.{Decoded}
 use Rattle.member_order.specs.Names.{escape_text, char_text, Decodes}

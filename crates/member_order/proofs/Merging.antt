@@ -6,7 +6,7 @@ use Prim.Native.Nat.{ℕ, zero, suc, suc-le-suc}
 use native.Mathlib.Nat.{not-suc-le-zero, le_of_suc-le-suc}
 use native.Mathlib.Omega.{arith}
 use lib.ListN.{drop, get_or}
-use Rattle.json.specs.Content.{before}
+use Rattle.json_text.specs.Content.{before}
 use Rattle.member_order.specs.Order.{insert, insert_all, ordered, Rising}
 use Rattle.member_order.proofs.Before.{before-trans, Lies, lies, first, later, same}
 use Rattle.member_order.proofs.Insert.{Each, each_nil, each-cons, each-head, each_tail, each-insert, each-insert_all}

@@ -5,9 +5,9 @@ use Prim.Native.Nat.{ℕ, zero, suc, ◌+◌, ◌<◌}
 use native.Mathlib.Omega.{arith}
 use borrow.Author.Tests.{eq-eqb, ne_eqb}
 use lib.ListN.{length, drop, get_or}
-use Rattle.json.specs.Content.{before}
+use Rattle.json_text.specs.Content.{before}
 use Rattle.member_order.specs.declared.compare.Order.TheVariants as Order
-use Rattle.json.specs.Work.{up_to_ff}
+use Rattle.json_text.specs.Work.{up_to_ff}
 use Rattle.member_order.specs.Names.{name_in, order_of}
 use Rattle.member_order.proofs.Before.{before-less, before_more, before-equal}
 

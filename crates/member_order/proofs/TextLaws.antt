@@ -7,14 +7,14 @@ use native.Mathlib.Omega.{arith}
 use borrow.Author.Tests.{eqb-false, eq-eqb, ne_eqb}
 use lib.Dec.{eqb}
 use lib.ListN.{length, drop, length-drop}
-use Rattle.json.specs.Bytes.{within, plain, tail, first_of_three, first_of_four, escape_of, hex_four, is_high, is_low}
-use Rattle.json.specs.Grammar.{Char, one, two, three, four, escaped, unicode, pair, Chars, mark, char}
-use Rattle.json.specs.Work.{byte_at, char_len, utf8_len}
-use Rattle.json.proofs.Bounds.{byte_past}
-use Rattle.json.proofs.ByteLaws.{plain-above, three-first, four-first, above-three, high_scalar}
-use Rattle.json.proofs.CharLaws.{char-len, char-front}
-use Rattle.json.proofs.CharSteps.{char-fits}
-use Rattle.json.proofs.Tests.{within_low, outside_high}
+use Rattle.json_text.specs.Bytes.{within, plain, tail, first_of_three, first_of_four, escape_of, hex_four, is_high, is_low}
+use Rattle.json_text.specs.Grammar.{Char, one, two, three, four, escaped, unicode, pair, Chars, mark, char}
+use Rattle.json_text.specs.Work.{byte_at, char_len, utf8_len}
+use Rattle.json_text.proofs.Bounds.{byte_past}
+use Rattle.json_text.proofs.ByteLaws.{plain-above, three-first, four-first, above-three, high_scalar}
+use Rattle.json_text.proofs.CharLaws.{char-len, char-front}
+use Rattle.json_text.proofs.CharSteps.{char-fits}
+use Rattle.json_text.proofs.Tests.{within_low, outside_high}
 use Rattle.rules.proofs.Tests.{and-true-left}
 use Rattle.member_order.specs.Names.{escape_text, char_text, text_from, chars_text}
 

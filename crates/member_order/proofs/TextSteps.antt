@@ -8,10 +8,10 @@ use borrow.Author.Tests.{eq-eqb}
 use lib.Dec.{eqb}
 use lib.ListN.{length, drop, get_or, drop_of_length-le}
 use lib.Seq.{drop-drop}
-use Rattle.json.specs.Bytes.{plain}
-use Rattle.json.specs.Work.{byte_at, char_len}
-use Rattle.json.proofs.Places.{byte-here}
-use Rattle.json.proofs.StringSteps.{front, no-mark}
+use Rattle.json_text.specs.Bytes.{plain}
+use Rattle.json_text.specs.Work.{byte_at, char_len}
+use Rattle.json_text.proofs.Places.{byte-here}
+use Rattle.json_text.proofs.StringSteps.{front, no-mark}
 use Rattle.member_order.specs.Names.{char_text, text_from, chars_text}
 use Rattle.member_order.proofs.TextLaws.{text-mark, text-bad, text-more}
 

@@ -6,7 +6,7 @@ use Prim.Native.Nat.{ℕ, zero, suc, ◌+◌, ◌≤◌, ◌<◌}
 use native.Mathlib.Omega.{arith}
 use lib.ListN.{length, get_or, length-map}
 use lib.Seq.{ext_get_or}
-use Rattle.json.specs.Content.{before}
+use Rattle.json_text.specs.Content.{before}
 use Rattle.member_order.specs.Codes.{place_in, name_of, Coded, WordOf, PlaceOf, Made}
 use Rattle.member_order.specs.Order.{insert, insert_all, ordered, run}
 use Rattle.member_order.proofs.Insert.{Each}

@@ -1,8 +1,8 @@
 -- The bytes that a string stands for, read off its text as a function, and how two names lie.
 use Rattle.std.specs.Prelude.{◌≡◌, Bool, true, false, cond, List, [], ◌∷◌, ◌++◌, ℕ, zero, suc, ◌+◌, ◌≤◌, ◌<◌, ltb, eqb, length, take, drop}
-use Rattle.json.specs.Bytes.{plain, escape_of, is_scalar, joined, utf8}
-use Rattle.json.specs.Content.{before}
-use Rattle.json.specs.Work.{byte_at, hex_at, utf8_len, char_len, up_to_ff}
+use Rattle.json_text.specs.Bytes.{plain, escape_of, is_scalar, joined, utf8}
+use Rattle.json_text.specs.Content.{before}
+use Rattle.json_text.specs.Work.{byte_at, hex_at, utf8_len, char_len, up_to_ff}
 use Rattle.member_order.specs.declared.names.Decoded.{Decoded}
 use Rattle.member_order.specs.declared.compare.Order.{Order}
 use Rattle.member_order.specs.declared.compare.Order.TheVariants as Order

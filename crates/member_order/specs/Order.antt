@@ -1,6 +1,6 @@
 -- The members of an object, by the places of their names: in the order of their names, of each name the last.
 use Rattle.std.specs.Prelude.{◌≡◌, true, cond, List, [], ◌∷◌, ℕ, ◌+◌, ◌≤◌, ◌<◌, length, take, drop, get_or}
-use Rattle.json.specs.Content.{before}
+use Rattle.json_text.specs.Content.{before}
 use Rattle.member_order.specs.declared.compare.Order.{Order}
 use Rattle.member_order.specs.declared.compare.Order.TheVariants as Order
 use Rattle.member_order.specs.declared.sort.Picked.{Picked}

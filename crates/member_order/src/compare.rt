@@ -1,10 +1,10 @@
 // Two names, byte by byte.
 ghost use Rattle.std.specs.Prelude.{◌≡◌, List, ◌∷◌, ℕ, get_or};
-ghost use Rattle.json.specs.Work.{up_to_ff};
+ghost use Rattle.json_text.specs.Work.{up_to_ff};
 ghost use Rattle.member_order.specs.Names.{name_in, order_of};
 
 // How the first of two names lies to the second.
-#[derive(Drop)]
+#[derive(Clone, Copy)]
 pub enum Order {
     Before,
     Same,

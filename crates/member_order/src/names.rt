@@ -1,15 +1,15 @@
 // The bytes that the chars of a string stand for.
 ghost use Rattle.std.specs.Prelude.{◌≡◌, [], ◌∷◌, ◌+◌, ◌≤◌, ◌<◌, length, drop};
-ghost use Rattle.json.specs.Bytes.{utf8};
-ghost use Rattle.json.specs.Refusals.{longest};
-ghost use Rattle.json.specs.Work.{byte_at, char_len};
+ghost use Rattle.json_text.specs.Bytes.{utf8};
+ghost use Rattle.json_text.specs.Refusals.{longest};
+ghost use Rattle.json_text.specs.Work.{byte_at, char_len};
 ghost use Rattle.member_order.specs.Names.{escape_text, char_text, Decodes};
 
-use json::bytes::byte;
-use json::strings::{escape_of, hex_at, is_scalar};
+use json_text::bytes::byte;
+use json_text::strings::{escape_of, hex_at, is_scalar};
 
 // One to four bytes.
-#[derive(Drop)]
+#[derive(Clone, Copy)]
 pub struct Decoded {
     pub b0: u8,
     pub b1: u8,

@@ -8,7 +8,7 @@ use crate::codes::{load, store};
 use crate::compare::{Order, compare};
 
 // The next word of two runs, and how far each is read behind it.
-#[derive(Drop)]
+#[derive(Clone, Copy)]
 pub struct Picked {
     pub word: u64,
     pub i: usize,

@@ -7,8 +7,8 @@ use native.Mathlib.Omega.{arith}
 use lib.ListN.{length, take, drop, length-append}
 use lib.Seq.{take_at}
 use Rattle.canonical.specs.Calls.{WroteMessage}
-use Rattle.json.specs.Canonical.{canonical}
-use Rattle.json.specs.Content.{content}
+use Rattle.json_text.specs.Canonical.{canonical}
+use Rattle.json_text.specs.Content.{content}
 use Rattle.keys.specs.Keys.{key_of}
 use Rattle.message_keys.specs.Keyed.{KeyOf}
 use Rattle.rules.specs.Quantities.{Key}

@@ -1,9 +1,9 @@
 -- Request 4 of document 02: venue messages in, keys out.
 use Rattle.std.specs.Prelude.{◌≡◌, List, ℕ, ◌<◌}
 use Rattle.canonical.specs.Calls.{Message}
-use Rattle.json.specs.Canonical.{canonical}
-use Rattle.json.specs.Content.{content}
-use Rattle.json.specs.Refusals.{Judged}
+use Rattle.json_text.specs.Canonical.{canonical}
+use Rattle.json_text.specs.Content.{content}
+use Rattle.json_text.specs.Refusals.{Judged}
 use Rattle.keys.specs.Keys.{key_of}
 use Rattle.message_keys.specs.declared.Keyed.{Keyed}
 use Rattle.message_keys.specs.declared.Keyed.TheVariants as Keyed

@@ -1,4 +1,6 @@
 // The key of a message: of its canonical bytes, which are written beside it and not kept.
+#![tactic(auto)]
+
 ghost use Rattle.std.specs.Prelude.{◌≤◌, length};
 ghost use Rattle.canonical.specs.Calls.{Message};
 ghost use Rattle.message_keys.specs.Keyed.{KeyOf, Answers};
@@ -8,7 +10,7 @@ use json_check::refusal;
 use keys::key_of;
 use rules::EventKey;
 
-#[derive(Drop)]
+#[derive(Clone, Copy)]
 pub enum Keyed {
     Key(EventKey),
     Refused(u64),

@@ -12,8 +12,8 @@ use Rattle.rules.specs.Lines.{Market, conn_at, items_of, event_keys, is_pending,
 use Rattle.rules.specs.Place.{alignment}
 use Rattle.rules.specs.Entering.{aligns}
 use Rattle.rules.proofs.Tests.{ff≢tt}
-use Rattle.log.specs.declared.Head.{Head}
-use Rattle.log.specs.Log.{keys_of}
+use Rattle.event_log.specs.declared.Head.{Head}
+use Rattle.event_log.specs.Log.{keys_of}
 use Rattle.place.specs.declared.Place.{Place}
 use Rattle.place.specs.declared.Place.TheVariants as Place
 use Rattle.place.specs.Items.{items_in, place_of, Counted}

@@ -11,7 +11,7 @@ use place::Place;
 use rules::Item;
 
 // How many records there are, and how many held events are still to be passed over.
-#[derive(Drop)]
+#[derive(Clone, Copy)]
 struct Past {
     n: usize,
     skip: usize,

@@ -1,4 +1,6 @@
 // The lists that a call writes: records of seven words, tick reports of three.
+#![tactic(auto)]
+
 ghost use Rattle.std.specs.Prelude.{◌≡◌, [], ◌∷◌, ◌+◌, ◌*◌, ◌≤◌, length};
 ghost use Rattle.output.specs.Output.{kind_word, record_words, report_words, over_at};
 

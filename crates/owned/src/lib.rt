@@ -1,6 +1,8 @@
 // No public calls: what a host that keeps its store to itself may use in their place. They ask for a sound store and do not test it, so a
 // host may call them only on words that setup made and that nobody but these functions has written since. Each leaves a sound store,
 // so that promise keeps itself. Slices, pointers and codes are as in crate exports.
+#![tactic(auto)]
+
 ghost use Rattle.std.specs.Prelude.{◌≡◌};
 ghost use Rattle.rules.specs.Quantities.{key};
 ghost use Rattle.rules.specs.Refusals as Rules;

@@ -6,8 +6,8 @@ use Prim.Native.Nat.{ℕ, ◌+◌, ◌-◌, ◌*◌, ◌≤◌, ◌<◌}
 use native.Mathlib.Omega.{arith}
 use lib.ListN.{get_or}
 use Rattle.words.proofs.Cases.{below_or}
-use Rattle.log.specs.Log.{entry_place}
-use Rattle.log.proofs.Ring.{place_short, place-turned}
+use Rattle.event_log.specs.Log.{entry_place}
+use Rattle.event_log.proofs.Ring.{place_short, place-turned}
 use Rattle.place.specs.Items.{first_at, Passed}
 
 at : (keys : List ℕ) (k a b : ℕ) → a ≡ b → (get_or keys a 0 ≡ k → ⊥) → get_or keys b 0 ≡ k → ⊥

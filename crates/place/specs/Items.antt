@@ -6,8 +6,8 @@ use Rattle.rules.specs.declared.Item.TheVariants as Item
 use Rattle.rules.specs.Quantities.{key}
 use Rattle.rules.specs.Lines.{is_snapshot}
 use Rattle.words.specs.Words.{tab}
-use Rattle.log.specs.Log.{entry_place, Ring}
-use Rattle.log.specs.declared.Head.{Head}
+use Rattle.event_log.specs.Log.{entry_place, Ring}
+use Rattle.event_log.specs.declared.Head.{Head}
 use Rattle.place.specs.declared.Place.{Place}
 use Rattle.place.specs.declared.Place.TheVariants as Place
 

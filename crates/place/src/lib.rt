@@ -1,14 +1,16 @@
 // A line's held items, and the place where a pending line's held events line up with the log.
+#![tactic(auto)]
+
 ghost use Rattle.std.specs.Prelude.{◌≡◌, not, [], ◌∷◌, ◌++◌, map, ◌+◌, ◌*◌, ◌≤◌, length, drop, leb};
 ghost use Rattle.rules.specs.Quantities.{align_run};
 ghost use Rattle.rules.specs.Lists.{any, index, nil};
 ghost use Rattle.rules.specs.Lines.{events, event_keys, is_snapshot, snapshot_of, message_of};
 ghost use Rattle.rules.specs.Place.{alignment as aligned};
 ghost use Rattle.words.specs.Words.{over};
-ghost use Rattle.log.specs.Log.{keys_of, Ring};
+ghost use Rattle.event_log.specs.Log.{keys_of, Ring};
 ghost use Rattle.place.specs.Items.{item_in, items_in, is_event, place_of, Room, Counted, first_at, first_of, Passed};
 
-use log::{Head, Matched};
+use event_log::{Head, Matched};
 use rules::{EventKey, Item};
 
 // The kind word of an event; a snapshot's is one more than its token.
@@ -16,7 +18,7 @@ const EVENT: u64 = 0;
 // Held events that match the log this many in a row make a place count.
 const ALIGN_RUN: usize = 4;
 
-#[derive(Drop)]
+#[derive(Clone, Copy)]
 pub enum Place {
     // The held events from the j-th on are the log's from this number on.
     At(usize, u64),

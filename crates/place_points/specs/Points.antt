@@ -2,7 +2,7 @@
 use Rattle.std.specs.Prelude.{◌≡◌, List, [], ◌∷◌, Bool, true, false, ◌&&◌, ℕ, ◌≤◌, eqb}
 use Rattle.rules.specs.Lines.{event_keys}
 use Rattle.rules.specs.Place.{alignment}
-use Rattle.log.specs.Log.{keys_of}
+use Rattle.event_log.specs.Log.{keys_of}
 use Rattle.place.specs.declared.Place.{Place}
 use Rattle.place.specs.declared.Place.TheVariants as Place
 use Rattle.place.specs.Items.{items_in, place_of}

@@ -1,8 +1,10 @@
 // The starred points about places, proved and run: a place counts with four matches, and where two count there is none.
+#![tactic(auto)]
+
 ghost use Rattle.std.specs.Prelude.{◌≡◌, ◌≤◌};
 ghost use Rattle.place_points.specs.Points.{place_at, same_place, Point};
 
-use log::Head;
+use event_log::Head;
 use place::Place;
 use rules::Stamp;
 

@@ -19,7 +19,7 @@ fn fresh(area: &[u64], i: usize, t: u64) -> bool
     requires { 4 * i + 3 < length area.now }
     ensures { result ≡ leb (age t (key_at area.now i).touched) other_keep }
 {
-    log::age(t, area[4 * i + 3]) <= OTHER_KEEP
+    event_log::age(t, area[4 * i + 3]) <= OTHER_KEEP
 }
 
 // Count row j is one of the m, and of the key of key row i.

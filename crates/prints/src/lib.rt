@@ -1,5 +1,7 @@
 // The print tables of a market in one lent slice: c rows of four words for keys (k0, k1, applied, touched),
 // then rows for counts (k0, k1, connection, delivered). Each is a table of two runs.
+#![tactic(auto)]
+
 pub mod expiry;
 pub mod sound;
 
@@ -20,21 +22,21 @@ use rules::EventKey;
 pub const MAX_COUNT: u64 = 4_294_967_295;
 
 // The rows in use.
-#[derive(Drop)]
+#[derive(Clone, Copy)]
 pub struct Used {
     pub keys: Runs,
     pub counts: Runs,
 }
 
 // Where the row of a key stands, and that of the key and a connection.
-#[derive(Drop)]
+#[derive(Clone, Copy)]
 pub struct Found {
     pub key: Place,
     pub pair: Place,
 }
 
 // The rows in use after a print was counted, and where its key's row stands.
-#[derive(Drop)]
+#[derive(Clone, Copy)]
 pub struct Counted {
     pub used: Used,
     pub key: Place,

@@ -11,7 +11,7 @@ use crate::Used;
 use rows::{Place, Runs};
 
 // A count row is sound, and so many keys of both runs are passed, or it is not.
-#[derive(Drop)]
+#[derive(Clone, Copy)]
 pub enum Tested {
     Sound(Runs),
     Unsound,

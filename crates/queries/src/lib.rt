@@ -1,4 +1,6 @@
 // The queries and the view, on any words. What each of them promises is in crate promise.
+#![tactic(auto)]
+
 ghost use Rattle.std.specs.Prelude.{◌≡◌};
 ghost use Rattle.rules.specs.Refusals as Rules;
 ghost use Rattle.rules.specs.Answers.{value, of_asked, of_viewed};

@@ -1,4 +1,6 @@
 // Reads calls from standard input, 44 bytes each, makes them on one market, and writes what they answer.
+#![tactic(auto)]
+
 ghost use Rattle.std.specs.Prelude.{◌≡◌, true, ◌+◌, ◌*◌, ◌/◌, ◌≤◌, ◌<◌, ◌^◌, length};
 
 use batch::Batched;

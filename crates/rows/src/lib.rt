@@ -1,4 +1,6 @@
 // Rows of four words in a lent slice, in rising order by two words or by three: n rows of the slice from row b on.
+#![tactic(auto)]
+
 pub mod removal;
 pub mod tables;
 
@@ -7,7 +9,7 @@ ghost use Rattle.rows.specs.Rows.{row, row_at, row_in, below, alike, Rises, Look
 ghost use Rattle.words.specs.Words.{Says};
 
 // Where a row stands, or the gap before the row where it would stand.
-#[derive(Drop)]
+#[derive(Clone, Copy)]
 pub enum Place {
     At(usize),
     Gap(usize),
@@ -17,14 +19,14 @@ pub enum Place {
 pub const MOST_NEW: usize = 512;
 
 // A table in two runs: how many rows stand in order, and how many new ones behind them, in order by themselves.
-#[derive(Drop)]
+#[derive(Clone, Copy)]
 pub struct Runs {
     pub old: usize,
     pub new: usize,
 }
 
 // A table that has got a row, and where that row stands.
-#[derive(Drop)]
+#[derive(Clone, Copy)]
 pub struct Added {
     pub runs: Runs,
     pub at: usize,
@@ -95,7 +97,7 @@ pub fn rises(t: &[u64], b: usize, i: usize, three: bool) -> bool
 }
 
 // Rows from lo on, so many, among which a search looks first.
-#[derive(Drop)]
+#[derive(Clone, Copy)]
 struct Window {
     lo: usize,
     len: usize,

@@ -5,7 +5,7 @@ use mathlib.Core.List.{List, [], ◌∷◌, ◌++◌, map, append_assoc}
 use mathlib.Core.Bool.{Bool, true, false, ◌||◌, cond}
 use Prim.Native.Nat.{ℕ, suc, ◌+◌, ◌-◌, ◌^◌, ◌≤◌, ◌<◌, max}
 use native.Mathlib.Omega.{arith}
-use lib.Dec.{ltb}
+use lib.Dec.{ltb, eqb}
 use lib.ListN.{length, get_or, drop, set, length-append, length-map, get_or-append, get_or-map}
 use lib.Seq.{get_or-drop, drop-append_seam, map-set_same, drop-drop}
 use Rattle.rules.specs.declared.Applied.{Applied}
@@ -52,7 +52,10 @@ module _ (U : List Key) (m : Market) (c : ℕ) (k : Key) (msg now room : ℕ) (x
 
   mine : events_of (conn_at i m).conn (x ∷ xs) ≡ k ∷ events_of (conn_at i m).conn xs
   unfolding events_of x
-  mine = rw (c-is, eqb_same c)
+  mine =
+      ap
+      (λ (b : Bool). cond b (k ∷ events_of (conn_at i m).conn xs) (events_of (conn_at i m).conn xs))
+      (ap (λ (d : ℕ). eqb c d) c-is ∙ eqb_same c)
 
   at_i : Calm U m.log.base (end m.log) (x ∷ xs) (conn_at i m)
   unfolding x

@@ -1,18 +1,19 @@
 // The plain types that the rules and the code share. A type named in the Rust keeps its name there.
+#![tactic(auto)]
 
 // A message's identity: two hashes of its content.
-#[derive(Drop)]
+#[derive(Clone, Copy)]
 pub struct EventKey(pub u64, pub u64);
 
 // A time that may not have come yet.
-#[derive(Drop)]
+#[derive(Clone, Copy)]
 pub enum Stamp {
     Never,
     At(u64),
 }
 
 // What setup fixes: lines L, held limit H, event limit G, print keys C, count pairs D.
-#[derive(Drop)]
+#[derive(Clone, Copy)]
 pub struct Limits {
     pub L: u64,
     pub H: u64,
@@ -21,7 +22,7 @@ pub struct Limits {
     pub D: u64,
 }
 
-#[derive(Drop)]
+#[derive(Clone, Copy)]
 pub enum Kind {
     Snapshot,
     Book,
@@ -29,7 +30,7 @@ pub enum Kind {
 }
 
 // A put-out record.
-#[derive(Drop)]
+#[derive(Clone, Copy)]
 pub struct Applied {
     pub conn: u64,
     pub kind: Kind,
@@ -40,14 +41,14 @@ pub struct Applied {
 }
 
 // What a line that is not in line holds: a snapshot (token, message) or an event (key, message).
-#[derive(Drop)]
+#[derive(Clone, Copy)]
 pub enum Item {
     Snapshot(u64, u64),
     Event(EventKey, u64),
 }
 
 // A tick report: the connection, and the count of its records.
-#[derive(Drop)]
+#[derive(Clone, Copy)]
 pub enum Expired {
     Aligned(u64, usize),
     Rebuild(u64, usize),
@@ -55,7 +56,7 @@ pub enum Expired {
 }
 
 // What a snapshot, a book event or a print is answered; Apply counts its records.
-#[derive(Drop)]
+#[derive(Clone, Copy)]
 pub enum Step {
     Apply(usize),
     Duplicate,
@@ -67,7 +68,7 @@ pub enum Step {
 }
 
 // What a drop or a promote is answered; Rebuild counts its records.
-#[derive(Drop)]
+#[derive(Clone, Copy)]
 pub enum Lost {
     Kept,
     Gone,
@@ -76,21 +77,21 @@ pub enum Lost {
 }
 
 // What a tick is answered: its reports, and all their records.
-#[derive(Drop)]
+#[derive(Clone, Copy)]
 pub enum Ticked {
     Done { reports: usize, records: usize },
     Refused(u64),
 }
 
 // What setup, a subscribe or a reset is answered.
-#[derive(Drop)]
+#[derive(Clone, Copy)]
 pub enum Changed {
     Done,
     Refused(u64),
 }
 
 // What a query is answered.
-#[derive(Drop)]
+#[derive(Clone, Copy)]
 pub enum Asked {
     Yes,
     No,
@@ -98,7 +99,7 @@ pub enum Asked {
 }
 
 // What a view is answered: how many messages it wrote.
-#[derive(Drop)]
+#[derive(Clone, Copy)]
 pub enum Viewed {
     Messages(usize),
     Refused(u64),

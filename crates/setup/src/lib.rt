@@ -1,4 +1,6 @@
 // Setup: the public call that makes an empty store, whatever the words were.
+#![tactic(auto)]
+
 ghost use Rattle.rules.specs.Answers.{of_changed};
 ghost use Rattle.market.specs.Lent.{alone};
 ghost use Rattle.promise.specs.Meets.{Promise, of_setup, says};

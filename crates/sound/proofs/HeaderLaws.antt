@@ -12,7 +12,7 @@ use Rattle.rules.specs.Sound.{TablesSound}
 use Rattle.rules.proofs.Tests.{ff≢tt}
 use Rattle.words.specs.Words.{Says}
 use Rattle.words.proofs.Parts.{part_length}
-use Rattle.log.specs.declared.Head.{Head}
+use Rattle.event_log.specs.declared.Head.{Head}
 use Rattle.prints.specs.declared.Used.{Used}
 use Rattle.rows.specs.Tables.{size}
 use Rattle.prints.specs.Area.{prints_of, Fits}

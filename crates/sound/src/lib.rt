@@ -1,4 +1,6 @@
 // Whether any words are a sound store.
+#![tactic(auto)]
+
 ghost use Rattle.std.specs.Prelude.{◌≡◌, true, ◌≤◌, length};
 ghost use Rattle.rules.specs.Quantities.{in_range, words_needed};
 ghost use Rattle.rules.specs.Sound.{TablesSound};

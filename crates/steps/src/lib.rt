@@ -1,4 +1,6 @@
 // The eight calls on a sound store, with every refusal but 1. Who lends a store that may be unsound uses crate calls.
+#![tactic(auto)]
+
 ghost use Rattle.std.specs.Prelude.{◌≡◌, ◌/◌, ltb};
 ghost use Rattle.rules.specs.Lists.{any};
 ghost use Rattle.rules.specs.Refusals as Rules;

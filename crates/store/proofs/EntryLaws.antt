@@ -12,8 +12,8 @@ use Rattle.rules.specs.Lines.{Market, with_log}
 use Rattle.rules.specs.Sound as Rules
 use Rattle.words.specs.Words.{part, back}
 use Rattle.words.proofs.Parts.{part_length, get_d_part}
-use Rattle.log.specs.declared.Head.{Head}
-use Rattle.log.specs.Log.{log_of, Fit, Ring}
+use Rattle.event_log.specs.declared.Head.{Head}
+use Rattle.event_log.specs.Log.{log_of, Fit, Ring}
 use Rattle.lines.specs.Area.{stamp_in}
 use Rattle.lines.proofs.AreaLaws.{stamp-at}
 use Rattle.store.specs.Store.{limits_of, head_of, put_head, tables_at, log_words, key_words, market_of, Sized, Sound}

@@ -14,8 +14,8 @@ use Rattle.words.specs.Words.{part, back, tab}
 use Rattle.words.proofs.Parts.{Loan, part_ext, part_same, length_back, back_below, back_above}
 use Rattle.words.proofs.Tab.{tab-ext}
 use Rattle.words.proofs.Cases.{below_or}
-use Rattle.log.specs.declared.Head.{Head}
-use Rattle.log.specs.Log.{log_of}
+use Rattle.event_log.specs.declared.Head.{Head}
+use Rattle.event_log.specs.Log.{log_of}
 use Rattle.rows.specs.Tables.{most_new}
 use Rattle.prints.specs.declared.Used.{Used}
 use Rattle.prints.specs.Area.{prints_of}

@@ -10,9 +10,9 @@ use Rattle.rules.specs.Lines.{Connection, conn_at, nobody, fresh}
 use Rattle.words.specs.Words.{back, tab}
 use Rattle.words.proofs.Parts.{get_d_part, length_back}
 use Rattle.words.proofs.Tab.{length-tab, get_d-tab}
-use Rattle.log.specs.declared.Head.{Head}
-use Rattle.log.specs.Log.{keys_of, log_of}
-use Rattle.log.proofs.Reading.{log-base, log-last, log-length, log-end, log-keys, keys-same}
+use Rattle.event_log.specs.declared.Head.{Head}
+use Rattle.event_log.specs.Log.{keys_of, log_of}
+use Rattle.event_log.proofs.Reading.{log-base, log-last, log-length, log-end, log-keys, keys-same}
 use Rattle.prints.specs.declared.Used.{Used}
 use Rattle.rows.specs.Tables.{size, table_of}
 use Rattle.prints.specs.Area.{prints_of}

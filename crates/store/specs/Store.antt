@@ -5,8 +5,8 @@ use Rattle.rules.specs.Quantities.{words_needed}
 use Rattle.rules.specs.Lines.{Connection, Market}
 use Rattle.rules.specs.Sound as Rules
 use Rattle.words.specs.Words.{part, back, tab}
-use Rattle.log.specs.declared.Head.{Head}
-use Rattle.log.specs.Log.{log_of}
+use Rattle.event_log.specs.declared.Head.{Head}
+use Rattle.event_log.specs.Log.{log_of}
 use Rattle.rows.specs.Tables.{most_new}
 use Rattle.prints.specs.declared.Used.{Used}
 use Rattle.prints.specs.Area.{prints_of}

@@ -6,7 +6,7 @@ ghost use Rattle.rules.specs.Lines.{with_log};
 ghost use Rattle.store.specs.Store.{limits_of, head_of, put_head, key_words, market_of, Sized};
 ghost use Rattle.store.specs.Moves.{Moved, Counts};
 
-use log::Head;
+use event_log::Head;
 use rules::{EventKey, Limits, Stamp};
 
 // The market's limits.
@@ -125,7 +125,7 @@ pub fn stamp(s: &mut [u64], t: u64)
     requires { Sized s.old }
     ensures { Moved s.old s.new (with_log (stamp t (market_of s.old).log) (market_of s.old)) }
 {
-    let new = log::stamp(head(s), t);
+    let new = event_log::stamp(head(s), t);
     put_head(s, new);
 }
 
@@ -148,6 +148,6 @@ pub fn prune(s: &mut [u64], t: u64)
     let g = s[2] as usize;
     let e = crate::areas::tables_start(s);
     let old = head(s);
-    let new = log::prune(&s[64..e], g, old, t);
+    let new = event_log::prune(&s[64..e], g, old, t);
     put_head(s, new);
 }

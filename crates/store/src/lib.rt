@@ -1,4 +1,6 @@
 // One lent slice of words: the header, the log, the print tables and the lines.
+#![tactic(auto)]
+
 pub mod areas;
 pub mod conns;
 pub mod entries;

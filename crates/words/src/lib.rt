@@ -1,4 +1,6 @@
 // Words of a lent store: shared laws are in proofs/, and what several areas do with words is here.
+#![tactic(auto)]
+
 ghost use Rattle.std.specs.Prelude.{◌+◌, ◌≤◌, length, ◌≡◌, [], ◌∷◌};
 ghost use Rattle.words.specs.Words.{Apart, Copied};
 

@@ -7,16 +7,16 @@ use native.Mathlib.Omega.{arith}
 use borrow.Author.Tests.{eqb-true, ne_eqb}
 use lib.Dec.{eqb}
 use lib.ListN.{length, take, drop, length-append}
-use Rattle.json.specs.Canonical.{little_endian, canonical, canonical_items, items}
-use Rattle.json.specs.Content.{content, contents}
-use Rattle.json.specs.Grammar.{Ws, Val, MoreItems}
-use Rattle.json.specs.Values.{Value, array, Items, no_items, item}
-use Rattle.json.specs.Work.{byte_at}
-use Rattle.json.proofs.Fronts.{items-ends}
-use Rattle.json.proofs.Inversion.{ArrayRest, no_item, some-items, ItemsAt, at_item}
-use Rattle.json.proofs.Inversion.{val-array, array-ends, array-items, items-front, items-end, items-next}
-use Rattle.json.proofs.OneValue.{val-only}
-use Rattle.json.proofs.Places.{byte-here, behind-here}
+use Rattle.json_text.specs.Canonical.{little_endian, canonical, canonical_items, items}
+use Rattle.json_text.specs.Content.{content, contents}
+use Rattle.json_text.specs.Grammar.{Ws, Val, MoreItems}
+use Rattle.json_text.specs.Values.{Value, array, Items, no_items, item}
+use Rattle.json_text.specs.Work.{byte_at}
+use Rattle.json_text.proofs.Fronts.{items-ends}
+use Rattle.json_text.proofs.Inversion.{ArrayRest, no_item, some-items, ItemsAt, at_item}
+use Rattle.json_text.proofs.Inversion.{val-array, array-ends, array-items, items-front, items-end, items-next}
+use Rattle.json_text.proofs.OneValue.{val-only}
+use Rattle.json_text.proofs.Places.{byte-here, behind-here}
 use Rattle.writing.specs.declared.Spot.{Spot}
 use Rattle.writing.specs.Places.{Spans, Ends}
 use Rattle.writing.specs.Writing.{written, Writable, Wrote}

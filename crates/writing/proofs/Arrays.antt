@@ -6,12 +6,12 @@ use Prim.Native.Nat.{ℕ, ◌+◌, ◌≤◌, ◌<◌}
 use native.Mathlib.Omega.{arith}
 use borrow.Author.Tests.{eqb-true, ne_eqb}
 use lib.ListN.{length, drop}
-use Rattle.json.specs.Grammar.{Ws, Val, MoreItems}
-use Rattle.json.specs.Values.{Items}
-use Rattle.json.specs.Work.{byte_at, goes_on}
-use Rattle.json.proofs.Fronts.{items-ends}
-use Rattle.json.proofs.Inversion.{ArrayRest, ItemsAt, at_item, val-array, array-ends, array-items, items-front, items-end, items-next}
-use Rattle.json.proofs.Places.{byte-here, front-byte, behind-here}
+use Rattle.json_text.specs.Grammar.{Ws, Val, MoreItems}
+use Rattle.json_text.specs.Values.{Items}
+use Rattle.json_text.specs.Work.{byte_at, goes_on}
+use Rattle.json_text.proofs.Fronts.{items-ends}
+use Rattle.json_text.proofs.Inversion.{ArrayRest, ItemsAt, at_item, val-array, array-ends, array-items, items-front, items-end, items-next}
+use Rattle.json_text.proofs.Places.{byte-here, front-byte, behind-here}
 use Rattle.writing.specs.Places.{Spans}
 use Rattle.writing.proofs.Parts.{past-val, place-past}
 use Rattle.writing.proofs.Spanning.{one_place, spans-to, spans-one, byte-stands, Skips, skipped, no-more}

@@ -7,9 +7,9 @@ use native.Mathlib.Omega.{arith}
 use lib.ListN.{length, take, drop, set, length-drop, length-set}
 use lib.Seq.{take-set-le, take-suc-set, drop-set-add}
 use Rattle.rules.proofs.ListLaws.{append-nil}
-use Rattle.json.specs.Content.{content}
-use Rattle.json.specs.Values.{object, Members, no_members}
-use Rattle.json.specs.Work.{byte_at}
+use Rattle.json_text.specs.Content.{content}
+use Rattle.json_text.specs.Values.{object, Members, no_members}
+use Rattle.json_text.specs.Work.{byte_at}
 use Rattle.member_order.specs.Names.{name_at}
 use Rattle.member_order.specs.Order.{run}
 use Rattle.writing.specs.Places.{Spans, MemberSpans, Ends, Holds, Lie, none_lie, one_lies, laid}

@@ -7,10 +7,10 @@ use native.Mathlib.Numerals.{add-one}
 use native.Mathlib.Omega.{arith}
 use lib.ListN.{length, take, drop, get_or}
 use lib.Seq.{drop-drop}
-use Rattle.json.specs.Canonical.{canonical, members, canonical_members}
-use Rattle.json.specs.Content.{before, content, put, sorted}
-use Rattle.json.specs.Grammar.{Name, name}
-use Rattle.json.specs.Values.{Value, Members, no_members, member}
+use Rattle.json_text.specs.Canonical.{canonical, members, canonical_members}
+use Rattle.json_text.specs.Content.{before, content, put, sorted}
+use Rattle.json_text.specs.Grammar.{Name, name}
+use Rattle.json_text.specs.Values.{Value, Members, no_members, member}
 use Rattle.member_order.specs.Names.{chars_text, name_at}
 use Rattle.member_order.specs.Order.{insert, insert_all, ordered}
 use Rattle.member_order.proofs.TextLaws.{chars-text}

@@ -4,13 +4,13 @@ use mathlib.Core.List.{List, [], ◌∷◌, ◌++◌, append_assoc}
 use Prim.Native.Nat.{ℕ, ◌+◌, ◌≤◌, ◌<◌}
 use native.Mathlib.Omega.{arith}
 use lib.ListN.{length, drop, length-append}
-use Rattle.json.specs.Canonical.{canonical}
-use Rattle.json.specs.Content.{content}
-use Rattle.json.specs.Grammar.{Val}
-use Rattle.json.specs.Values.{Value}
-use Rattle.json.proofs.Fronts.{val-ws}
-use Rattle.json.proofs.NameLaws.{name-rest}
-use Rattle.json.proofs.OneValue.{val-only}
+use Rattle.json_text.specs.Canonical.{canonical}
+use Rattle.json_text.specs.Content.{content}
+use Rattle.json_text.specs.Grammar.{Val}
+use Rattle.json_text.specs.Values.{Value}
+use Rattle.json_text.proofs.Fronts.{val-ws}
+use Rattle.json_text.proofs.NameLaws.{name-rest}
+use Rattle.json_text.proofs.OneValue.{val-only}
 use Rattle.member_order.specs.Names.{chars_text}
 use Rattle.writing.specs.declared.Spot.{Spot}
 use Rattle.writing.specs.Places.{MemberSpans}

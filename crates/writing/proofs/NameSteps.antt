@@ -5,13 +5,13 @@ use mathlib.Core.Option.{some}
 use Prim.Native.Nat.{ℕ, ◌+◌, ◌≤◌, ◌<◌}
 use native.Mathlib.Omega.{arith}
 use lib.ListN.{length, drop, length-drop}
-use Rattle.json.specs.Bytes.{is_ws}
-use Rattle.json.specs.Grammar.{Ws, Chars, Name, name}
-use Rattle.json.specs.Work.{byte_at, skip_ws, chars_rest}
-use Rattle.json.proofs.CharsLaws.{chars_rest_lem}
-use Rattle.json.proofs.Fronts.{val-ws, name-mark}
-use Rattle.json.proofs.Places.{byte-here, behind-here}
-use Rattle.json.proofs.Spaces.{ws-skips, skip-front}
+use Rattle.json_text.specs.Bytes.{is_ws}
+use Rattle.json_text.specs.Grammar.{Ws, Chars, Name, name}
+use Rattle.json_text.specs.Work.{byte_at, skip_ws, chars_rest}
+use Rattle.json_text.proofs.CharsLaws.{chars_rest_lem}
+use Rattle.json_text.proofs.Fronts.{val-ws, name-mark}
+use Rattle.json_text.proofs.Places.{byte-here, behind-here}
+use Rattle.json_text.proofs.Spaces.{ws-skips, skip-front}
 use Rattle.member_order.specs.Names.{chars_text, name_at}
 use Rattle.member_order.proofs.TextLaws.{chars-text}
 use Rattle.content.proofs.Fits.{name-length}

@@ -7,7 +7,7 @@ use native.Mathlib.Omega.{arith}
 use lib.Dec.{eqb}
 use lib.ListN.{length, take, drop, length-take, length-drop, take-append-drop}
 use lib.Seq.{drop_at, drop-append-le}
-use Rattle.json.specs.Work.{up_to_ff}
+use Rattle.json_text.specs.Work.{up_to_ff}
 use Rattle.member_order.specs.Names.{name_at, name_in}
 use Rattle.content.proofs.CleanChars.{name_below}
 use Rattle.content.proofs.NumberTexts.{Below}

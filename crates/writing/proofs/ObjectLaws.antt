@@ -5,11 +5,11 @@ use Prim.Native.Nat.{ℕ, ◌+◌, ◌-◌, ◌*◌, ◌≤◌, ◌<◌}
 use native.Mathlib.Omega.{arith}
 use lib.ListN.{length, take, get_or, length-append}
 use lib.Seq.{get_or-take, take-take}
-use Rattle.json.specs.Canonical.{little_endian, canonical, canonical_members, members}
-use Rattle.json.specs.Content.{content, sorted}
-use Rattle.json.specs.Refusals.{longest}
-use Rattle.json.specs.Values.{Value, object, Members}
-use Rattle.json.proofs.OneValue.{val-only}
+use Rattle.json_text.specs.Canonical.{little_endian, canonical, canonical_members, members}
+use Rattle.json_text.specs.Content.{content, sorted}
+use Rattle.json_text.specs.Refusals.{longest}
+use Rattle.json_text.specs.Values.{Value, object, Members}
+use Rattle.json_text.proofs.OneValue.{val-only}
 use Rattle.member_order.specs.Names.{name_at, name_in}
 use Rattle.member_order.specs.Order.{ordered, run, Short, Rewritten}
 use Rattle.member_order.proofs.Insert.{ordered_same}

@@ -6,12 +6,12 @@ use Prim.Native.Nat.{ℕ, ◌+◌, ◌≤◌, ◌<◌}
 use native.Mathlib.Omega.{arith}
 use borrow.Author.Tests.{eqb-true, ne_eqb}
 use lib.ListN.{length, drop}
-use Rattle.json.specs.Grammar.{Ws, Name, Val, MoreMembers}
-use Rattle.json.specs.Values.{Value, object, Members, no_members, member}
-use Rattle.json.specs.Work.{byte_at, goes_on}
-use Rattle.json.proofs.Fronts.{members-ends}
-use Rattle.json.proofs.Inversion.{ObjectRest, MembersAt, at-member, val-object, object-ends, object-members, members-front, members-end, members-next}
-use Rattle.json.proofs.Places.{byte-here, front-byte, behind-here}
+use Rattle.json_text.specs.Grammar.{Ws, Name, Val, MoreMembers}
+use Rattle.json_text.specs.Values.{Value, object, Members, no_members, member}
+use Rattle.json_text.specs.Work.{byte_at, goes_on}
+use Rattle.json_text.proofs.Fronts.{members-ends}
+use Rattle.json_text.proofs.Inversion.{ObjectRest, MembersAt, at-member, val-object, object-ends, object-members, members-front, members-end, members-next}
+use Rattle.json_text.proofs.Places.{byte-here, front-byte, behind-here}
 use Rattle.writing.specs.Places.{Spans, MemberSpans}
 use Rattle.writing.proofs.Parts.{past-name, past-val, from-members, place-past, place-before}
 use Rattle.writing.proofs.Spanning.{one_place, member-one, byte-stands, Skips, skipped, no-more}

@@ -5,12 +5,12 @@ use Prim.Native.Nat.{ℕ, suc, ◌+◌, ◌≤◌, ◌<◌}
 use native.Mathlib.Omega.{arith}
 use lib.ListN.{length, drop, length-drop}
 use lib.Seq.{drop-drop}
-use Rattle.json.specs.Numbers.{Digits, no_digits, digit, Digits1, digits, Minus, no_minus, minus, Int, zero, from_one}
-use Rattle.json.specs.Numbers.{Frac, no_frac, frac, Sign, no_sign, negative, positive, Exp, no_exp, exp, Number, number}
-use Rattle.json.specs.Values.{Value, Items, Members}
-use Rattle.json.specs.Grammar.{Ws, no_ws, ws, Char, one, two, three, four, escaped, unicode, pair, Chars, mark, char, Name, name}
-use Rattle.json.specs.Grammar.{Val, a_null, a_true, a_false, a_number, a_string, empty_array, an_array, empty_object, an_object}
-use Rattle.json.specs.Grammar.{MoreItems, MoreMembers, end_array, next_item, end_object, next_member}
+use Rattle.json_text.specs.Numbers.{Digits, no_digits, digit, Digits1, digits, Minus, no_minus, minus, Int, zero, from_one}
+use Rattle.json_text.specs.Numbers.{Frac, no_frac, frac, Sign, no_sign, negative, positive, Exp, no_exp, exp, Number, number}
+use Rattle.json_text.specs.Values.{Value, Items, Members}
+use Rattle.json_text.specs.Grammar.{Ws, no_ws, ws, Char, one, two, three, four, escaped, unicode, pair, Chars, mark, char, Name, name}
+use Rattle.json_text.specs.Grammar.{Val, a_null, a_true, a_false, a_number, a_string, empty_array, an_array, empty_object, an_object}
+use Rattle.json_text.specs.Grammar.{MoreItems, MoreMembers, end_array, next_item, end_object, next_member}
 
 -- r is what s has from some place on
 pub data From : List ℕ → List ℕ → Type 0 where

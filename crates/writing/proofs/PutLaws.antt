@@ -7,12 +7,12 @@ use Prim.Native.Nat.{ℕ, ◌+◌, ◌-◌, ◌/◌, ◌%◌, ◌≤◌, ◌<◌
 use native.Mathlib.Numerals.{add-one, add-two}
 use native.Mathlib.Omega.{arith}
 use lib.ListN.{length, drop, get_or, set, length-append, replicate, length-replicate, replicate-append-replicate}
-use Rattle.json.specs.Bytes.{plain}
-use Rattle.json.specs.Canonical.{little_endian}
-use Rattle.json.specs.Work.{byte_at, char_len, chars_rest}
-use Rattle.json.proofs.Bounds.{byte-at}
-use Rattle.json.proofs.Lengths.{char-plain}
-use Rattle.json.proofs.StringSteps.{no-mark, chars-on, chars-stuck, char-inside}
+use Rattle.json_text.specs.Bytes.{plain}
+use Rattle.json_text.specs.Canonical.{little_endian}
+use Rattle.json_text.specs.Work.{byte_at, char_len, chars_rest}
+use Rattle.json_text.proofs.Bounds.{byte-at}
+use Rattle.json_text.proofs.Lengths.{char-plain}
+use Rattle.json_text.proofs.StringSteps.{no-mark, chars-on, chars-stuck, char-inside}
 use Rattle.member_order.specs.Names.{char_text, chars_text}
 use Rattle.member_order.proofs.TextSteps.{text-on, text-stuck, plain-text}
 use Rattle.writing.specs.Writing.{written, PutChar, PutString}

@@ -8,21 +8,21 @@ use native.Mathlib.Omega.{arith}
 use borrow.Author.Tests.{eq-eqb, ne_eqb, eqb-true}
 use lib.Dec.{eqb}
 use lib.ListN.{length, take, drop, set, length-append, length-take, length-drop}
-use Rattle.json.specs.Bytes.{is_digit}
-use Rattle.json.specs.Canonical.{canonical}
-use Rattle.json.specs.Content.{content}
-use Rattle.json.specs.Grammar.{Chars}
-use Rattle.json.specs.Numbers.{Number}
-use Rattle.json.specs.Values.{Value, null, boolean, number, string, array, object}
-use Rattle.json.specs.Work.{byte_at, chars_rest, number_rest, up_to, Ends}
-use Rattle.json.specs.declared.End.{End}
-use Rattle.json.specs.declared.End.TheVariants as End
-use Rattle.json.proofs.CharsLaws.{chars_rest_lem}
-use Rattle.json.proofs.EndLaws.{ends-nowhere-reads, ends-at-reads, ends-at-beyond}
-use Rattle.json.proofs.Fronts.{starts_number, starts, val-starts}
-use Rattle.json.proofs.Inversion.{val-null, val-true, val-false, val-string, val-number}
-use Rattle.json.proofs.NumberLaws.{number-rest}
-use Rattle.json.proofs.Places.{byte-here, behind-here}
+use Rattle.json_text.specs.Bytes.{is_digit}
+use Rattle.json_text.specs.Canonical.{canonical}
+use Rattle.json_text.specs.Content.{content}
+use Rattle.json_text.specs.Grammar.{Chars}
+use Rattle.json_text.specs.Numbers.{Number}
+use Rattle.json_text.specs.Values.{Value, null, boolean, number, string, array, object}
+use Rattle.json_text.specs.Work.{byte_at, chars_rest, number_rest, up_to, Ends}
+use Rattle.json_text.specs.declared.End.{End}
+use Rattle.json_text.specs.declared.End.TheVariants as End
+use Rattle.json_text.proofs.CharsLaws.{chars_rest_lem}
+use Rattle.json_text.proofs.EndLaws.{ends-nowhere-reads, ends-at-reads, ends-at-beyond}
+use Rattle.json_text.proofs.Fronts.{starts_number, starts, val-starts}
+use Rattle.json_text.proofs.Inversion.{val-null, val-true, val-false, val-string, val-number}
+use Rattle.json_text.proofs.NumberLaws.{number-rest}
+use Rattle.json_text.proofs.Places.{byte-here, behind-here}
 use Rattle.member_order.specs.Names.{chars_text}
 use Rattle.member_order.proofs.TextLaws.{chars-text}
 use Rattle.writing.specs.declared.Spot.{Spot}

@@ -7,17 +7,17 @@ use Prim.Native.Nat.{ℕ, ◌+◌}
 use borrow.Author.Tests.{eq-eqb, ne_eqb}
 use lib.ListN.{drop}
 use Rattle.rules.proofs.Tests.{ff≢tt, or-true}
-use Rattle.json.specs.declared.End.{End}
-use Rattle.json.specs.Bytes.{is_digit}
-use Rattle.json.specs.Grammar.{Val, a_null, a_true, a_false, a_number, a_string, empty_array, an_array, empty_object, an_object}
-use Rattle.json.specs.Values.{Value}
-use Rattle.json.specs.Work.{byte_at, chars_rest, number_rest, word_rest, literal_rest}
-use Rattle.json.specs.Work.{Ends as Found}
-use Rattle.json.proofs.CharsLaws.{chars_rest_lem}
-use Rattle.json.proofs.Fronts.{starts_number, number-begins}
-use Rattle.json.proofs.Inversion.{val-string, val-number}
-use Rattle.json.proofs.NumberLaws.{number-rest}
-use Rattle.json.proofs.Places.{front-byte, behind-here}
+use Rattle.json_text.specs.declared.End.{End}
+use Rattle.json_text.specs.Bytes.{is_digit}
+use Rattle.json_text.specs.Grammar.{Val, a_null, a_true, a_false, a_number, a_string, empty_array, an_array, empty_object, an_object}
+use Rattle.json_text.specs.Values.{Value}
+use Rattle.json_text.specs.Work.{byte_at, chars_rest, number_rest, word_rest, literal_rest}
+use Rattle.json_text.specs.Work.{Ends as Found}
+use Rattle.json_text.proofs.CharsLaws.{chars_rest_lem}
+use Rattle.json_text.proofs.Fronts.{starts_number, number-begins}
+use Rattle.json_text.proofs.Inversion.{val-string, val-number}
+use Rattle.json_text.proofs.NumberLaws.{number-rest}
+use Rattle.json_text.proofs.Places.{front-byte, behind-here}
 use Rattle.writing.specs.Places.{place_of, Spans}
 use Rattle.writing.proofs.Spanning.{spans-to, place_found}
 

@@ -9,18 +9,18 @@ use borrow.Author.Tests.{eqb-true, eqb-false}
 use lib.Dec.{eqb}
 use lib.ListN.{length, drop, get_or, set, length-drop}
 use lib.Seq.{get_or-set_same, get_or-set_other}
-use Rattle.json.specs.declared.End.{End}
-use Rattle.json.specs.declared.End.TheVariants as End
-use Rattle.json.specs.Bytes.{is_ws}
-use Rattle.json.specs.Grammar.{Ws, Val}
-use Rattle.json.specs.Work.{byte_at, skip_ws}
-use Rattle.json.specs.Work.{Ends as Found}
-use Rattle.json.proofs.Bounds.{byte_inside, left_at}
-use Rattle.json.proofs.Fronts.{val-ws}
-use Rattle.json.proofs.NameLaws.{name-rest}
-use Rattle.json.proofs.OneValue.{val-only}
-use Rattle.json.proofs.Spaces.{skips-ws, skipped-front}
-use Rattle.json.proofs.Tests.{same, no-some}
+use Rattle.json_text.specs.declared.End.{End}
+use Rattle.json_text.specs.declared.End.TheVariants as End
+use Rattle.json_text.specs.Bytes.{is_ws}
+use Rattle.json_text.specs.Grammar.{Ws, Val}
+use Rattle.json_text.specs.Work.{byte_at, skip_ws}
+use Rattle.json_text.specs.Work.{Ends as Found}
+use Rattle.json_text.proofs.Bounds.{byte_inside, left_at}
+use Rattle.json_text.proofs.Fronts.{val-ws}
+use Rattle.json_text.proofs.NameLaws.{name-rest}
+use Rattle.json_text.proofs.OneValue.{val-only}
+use Rattle.json_text.proofs.Spaces.{skips-ws, skipped-front}
+use Rattle.json_text.proofs.Tests.{same, no-some}
 use Rattle.writing.specs.Places.{place_of, Spans, Ends, MemberSpans}
 
 -- what is left tells the place

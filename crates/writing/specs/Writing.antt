@@ -1,11 +1,11 @@
 -- What the work leaves in the lists that it is lent.
 use Rattle.std.specs.Prelude.{◌≡◌, List, [], ◌∷◌, ◌++◌, ℕ, ◌+◌, ◌-◌, ◌*◌, ◌≤◌, ◌<◌, length, take, drop, get_or}
 use Rattle.std.proofs.Math.Option.{some}
-use Rattle.json.specs.Canonical.{canonical}
-use Rattle.json.specs.Content.{content}
-use Rattle.json.specs.Refusals.{longest}
-use Rattle.json.specs.Values.{Value, object, Members}
-use Rattle.json.specs.Work.{char_len, chars_rest}
+use Rattle.json_text.specs.Canonical.{canonical}
+use Rattle.json_text.specs.Content.{content}
+use Rattle.json_text.specs.Refusals.{longest}
+use Rattle.json_text.specs.Values.{Value, object, Members}
+use Rattle.json_text.specs.Work.{char_len, chars_rest}
 use Rattle.member_order.specs.Names.{char_text, chars_text, name_at, name_in}
 use Rattle.member_order.specs.Order.{run}
 use Rattle.writing.specs.declared.Spot.{Spot}

@@ -1,15 +1,15 @@
 // Bytes into the output.
 ghost use Rattle.std.specs.Prelude.{◌≡◌, false, ◌∷◌, ◌+◌, ◌-◌, ◌≤◌, ◌<◌, length, take, drop};
-ghost use Rattle.json.specs.Bytes.{plain};
-ghost use Rattle.json.specs.Canonical.{little_endian};
-ghost use Rattle.json.specs.Refusals.{longest};
-ghost use Rattle.json.specs.Work.{byte_at, char_len};
+ghost use Rattle.json_text.specs.Bytes.{plain};
+ghost use Rattle.json_text.specs.Canonical.{little_endian};
+ghost use Rattle.json_text.specs.Refusals.{longest};
+ghost use Rattle.json_text.specs.Work.{byte_at, char_len};
 ghost use Rattle.member_order.specs.Names.{char_text, chars_text, text_of};
 ghost use Rattle.writing.specs.Writing.{written, PutChar, PutString};
 
 use crate::Spot;
-use json::bytes::byte;
-use json::strings::{plain, special_len};
+use json_text::bytes::byte;
+use json_text::strings::{plain, special_len};
 use member_order::names::{Decoded, decode};
 
 // The bytes from one place of the text up to another, from pos on.

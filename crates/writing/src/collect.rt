@@ -1,16 +1,16 @@
 // The members of an object.
 ghost use Rattle.std.specs.Prelude.{◌≡◌, [], ◌∷◌, ◌++◌, ◌+◌, ◌-◌, ◌*◌, ◌≤◌, length};
-ghost use Rattle.json.specs.Work.{byte_at};
+ghost use Rattle.json_text.specs.Work.{byte_at};
 ghost use Rattle.member_order.specs.Names.{name_at};
 ghost use Rattle.writing.specs.Places.{Ends, MemberSpans};
 ghost use Rattle.writing.specs.Writing.{written, Skippable, SkippableMember, Gathered};
 
 use crate::bytes::put_string;
 use crate::skip::skip_value;
-use json::bytes::{byte, skip_ws};
+use json_text::bytes::{byte, skip_ws};
 
 // How many members an object has, repeated names too, and where it ends.
-#[derive(Drop)]
+#[derive(Clone, Copy)]
 pub struct Collected {
     pub count: usize,
     pub end: usize,

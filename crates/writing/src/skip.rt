@@ -1,16 +1,16 @@
 // Where a value ends. The text is known to be one, so that little is tested. The end is kept in ends at the value's place, 0 where it is not
 // known yet: so no value is read through twice.
 ghost use Rattle.std.specs.Prelude.{ℕ, ◌≤◌, length, ◌≡◌};
-ghost use Rattle.json.specs.Refusals.{longest};
-ghost use Rattle.json.specs.Work.{byte_at};
+ghost use Rattle.json_text.specs.Refusals.{longest};
+ghost use Rattle.json_text.specs.Work.{byte_at};
 ghost use Rattle.writing.specs.Places.{place_of, Spans, Ends, MemberSpans};
 ghost use Rattle.writing.specs.Writing.{Skippable, SkippableMember};
 
-use json::End;
-use json::bytes::{byte, is_digit, skip_ws};
-use json::names::literal_end;
-use json::numbers::number_end;
-use json::strings::skip_string;
+use json_text::End;
+use json_text::bytes::{byte, is_digit, skip_ws};
+use json_text::names::literal_end;
+use json_text::numbers::number_end;
+use json_text::strings::skip_string;
 
 fn wide(x: u16) -> usize
     ensures { result ≡ x }

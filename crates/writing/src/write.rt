@@ -1,15 +1,15 @@
 // The canonical bytes of a value that stands in the text. What lies from top on in places is free.
 ghost use Rattle.std.specs.Prelude.{◌≡◌, true, false, ◌||◌, eqb};
-ghost use Rattle.json.specs.Bytes.{is_digit};
-ghost use Rattle.json.specs.Work.{byte_at};
+ghost use Rattle.json_text.specs.Bytes.{is_digit};
+ghost use Rattle.json_text.specs.Work.{byte_at};
 ghost use Rattle.writing.specs.Writing.{WritesScalar, WroteScalar, Writable, Wrote, WritableMember, WroteMember};
 
 use crate::Spot;
 use crate::bytes::{put_header, put_string, put_text};
 use crate::collect::collect;
-use json::End;
-use json::bytes::{byte, is_digit, skip_ws};
-use json::numbers::number_end;
+use json_text::End;
+use json_text::bytes::{byte, is_digit, skip_ws};
+use json_text::numbers::number_end;
 use member_order::sort::{sort, wide};
 
 // A string, whose first mark stands at the place.

@@ -1,6 +1,6 @@
 use borrow.Author.Rules.{rules}
 use native.Mathlib.Omega.{arith}
-use Rattle.json.specs.Refusals.{too_long}
+use Rattle.json_text.specs.Refusals.{too_long}
 use Rattle.json_check.proofs.refusal.Statement.{statement}
 use Rattle.json_check.proofs.refusal.Tie as tie
 

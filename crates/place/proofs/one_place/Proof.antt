@@ -10,11 +10,11 @@ use borrow.Author.Rules.{rules}
 use borrow.Author.Tests.{not-true, not-false}
 use Rattle.rules.specs.Quantities.{Key, same}
 use Rattle.rules.specs.Log.{key_at}
-use Rattle.log.specs.Log.{key_in, entry_place}
-use Rattle.log.specs.Answers.{match_answer}
-use Rattle.log.specs.declared.Matched.{Matched}
-use Rattle.log.specs.declared.Matched.TheVariants as Matched
-use Rattle.log.proofs.Ring.{place_short}
+use Rattle.event_log.specs.Log.{key_in, entry_place}
+use Rattle.event_log.specs.Answers.{match_answer}
+use Rattle.event_log.specs.declared.Matched.{Matched}
+use Rattle.event_log.specs.declared.Matched.TheVariants as Matched
+use Rattle.event_log.proofs.Ring.{place_short}
 use Rattle.log_borrowed.specs.View.{view_of}
 use Rattle.log_borrowed.proofs.ViewLaws.{same-said, differs-said, end-said}
 use Rattle.place.specs.Items.{place_of}

@@ -1,6 +1,6 @@
 use borrow.Author.Rules.{rules}
 use native.Mathlib.Omega.{arith}
-use Rattle.json.proofs.Places.{place-behind}
+use Rattle.json_text.proofs.Places.{place-behind}
 use Rattle.json_check.proofs.AfterSteps.{item-end, item-next, item-none}
 use Rattle.json_check.proofs.Stacks.{stack-pop}
 use Rattle.json_check.proofs.StepLaws.{steps-value, steps-after, steps-bad}

@@ -1,7 +1,7 @@
 use borrow.Author.Rules.{rules}
 use native.Mathlib.Omega.{arith}
-use Rattle.json.proofs.EndLaws.{ends-nowhere-reads, ends-at-reads, ends-at-beyond}
-use Rattle.json.proofs.Places.{place-behind}
+use Rattle.json_text.proofs.EndLaws.{ends-nowhere-reads, ends-at-reads, ends-at-beyond}
+use Rattle.json_text.proofs.Places.{place-behind}
 use Rattle.json_check.proofs.AfterSteps.{member-end, member-none, member-no-name, member-name}
 use Rattle.json_check.proofs.Stacks.{stack-pop}
 use Rattle.json_check.proofs.StepLaws.{steps-value, steps-after, steps-bad}

@@ -1,8 +1,8 @@
 use borrow.Author.Rules.{rules}
 use mathlib.Core.Path.{◌∙◌, ap}
 use native.Mathlib.Omega.{arith}
-use Rattle.json.specs.Refusals.{first}
-use Rattle.json.proofs.Places.{place-behind}
+use Rattle.json_text.specs.Refusals.{first}
+use Rattle.json_text.proofs.Places.{place-behind}
 use Rattle.json_check.proofs.Stacks.{stack_push}
 use Rattle.json_check.proofs.StepLaws.{steps-value, steps-after}
 use Rattle.json_check.proofs.ValueSteps.{array-end, array-item}

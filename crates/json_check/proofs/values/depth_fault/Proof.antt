@@ -1,6 +1,6 @@
 use native.Mathlib.Omega.{arith}
 use borrow.Author.Tests.{lt-ltb, le-ltb}
-use Rattle.json.specs.Refusals.{depth_fault}
+use Rattle.json_text.specs.Refusals.{depth_fault}
 use Rattle.json_check.proofs.values.depth_fault.Statement.{statement}
 use Rattle.json_check.proofs.values.depth_fault.Tie as tie
 

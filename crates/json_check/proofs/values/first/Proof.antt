@@ -1,7 +1,7 @@
 use mathlib.Core.Path.{◌≡◌, refl}
 use Prim.Native.Nat.{ℕ, zero, suc}
 use native.Mathlib.Omega.{arith}
-use Rattle.json.specs.Refusals.{first}
+use Rattle.json_text.specs.Refusals.{first}
 use Rattle.json_check.proofs.values.first.Statement.{statement}
 use Rattle.json_check.proofs.values.first.Tie as tie
 

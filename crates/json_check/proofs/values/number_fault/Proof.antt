@@ -1,6 +1,6 @@
 use borrow.Author.Rules.{rules}
 use mathlib.Core.Path.{sym, ◌∙◌}
-use Rattle.json.specs.Refusals.{number_fault}
+use Rattle.json_text.specs.Refusals.{number_fault}
 use Rattle.json_check.proofs.values.number_fault.Statement.{statement}
 use Rattle.json_check.proofs.values.number_fault.Tie as tie
 

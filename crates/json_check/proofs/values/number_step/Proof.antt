@@ -1,8 +1,8 @@
 use borrow.Author.Rules.{rules}
 use mathlib.Core.Path.{◌∙◌, ap}
 use native.Mathlib.Omega.{arith}
-use Rattle.json.specs.Refusals.{first}
-use Rattle.json.proofs.EndLaws.{ends-nowhere-reads, ends-at-reads, ends-at-beyond}
+use Rattle.json_text.specs.Refusals.{first}
+use Rattle.json_text.proofs.EndLaws.{ends-nowhere-reads, ends-at-reads, ends-at-beyond}
 use Rattle.json_check.proofs.StepLaws.{steps-after, steps-bad}
 use Rattle.json_check.proofs.ValueSteps.{number-none, number-some}
 use Rattle.json_check.proofs.values.number_step.Statement.{statement}

@@ -1,9 +1,9 @@
 use borrow.Author.Rules.{rules}
 use mathlib.Core.Path.{◌∙◌, ap}
 use native.Mathlib.Omega.{arith}
-use Rattle.json.specs.Refusals.{first}
-use Rattle.json.proofs.EndLaws.{ends-nowhere-reads, ends-at-reads, ends-at-beyond}
-use Rattle.json.proofs.Places.{place-behind}
+use Rattle.json_text.specs.Refusals.{first}
+use Rattle.json_text.proofs.EndLaws.{ends-nowhere-reads, ends-at-reads, ends-at-beyond}
+use Rattle.json_text.proofs.Places.{place-behind}
 use Rattle.json_check.proofs.Stacks.{stack_push}
 use Rattle.json_check.proofs.StepLaws.{steps-value, steps-after, steps-bad}
 use Rattle.json_check.proofs.ValueSteps.{object-end, object-no-name, object-name}

@@ -1,6 +1,6 @@
 use borrow.Author.Rules.{rules}
 use native.Mathlib.Omega.{arith}
-use Rattle.json.proofs.EndLaws.{ends-nowhere-reads, ends-at-reads, ends-at-beyond}
+use Rattle.json_text.proofs.EndLaws.{ends-nowhere-reads, ends-at-reads, ends-at-beyond}
 use Rattle.json_check.proofs.StepLaws.{steps-after, steps-bad}
 use Rattle.json_check.proofs.ValueSteps.{string-none, string-some}
 use Rattle.json_check.proofs.values.string_step.Statement.{statement}

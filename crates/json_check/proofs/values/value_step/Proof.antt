@@ -1,7 +1,7 @@
 use borrow.Author.Rules.{rules}
 use mathlib.Core.Path.{sym, ◌∙◌}
 use native.Mathlib.Omega.{arith}
-use Rattle.json.proofs.Places.{place-behind}
+use Rattle.json_text.proofs.Places.{place-behind}
 use Rattle.json_check.proofs.Stacks.{stack-length}
 use Rattle.json_check.proofs.StepLaws.{steps-as}
 use Rattle.json_check.proofs.ValueSteps.{value-string, value-minus, value-digit, value-array, value-object, value-literal}

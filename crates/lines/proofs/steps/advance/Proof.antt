@@ -3,7 +3,7 @@ use Prim.Native.Nat.{ℕ}
 use native.Mathlib.Omega.{arith}
 use borrow.Author.Rules.{rules}
 use Rattle.rules.specs.Quantities.{Key}
-use Rattle.log.specs.Log.{key_in, entry_place}
+use Rattle.event_log.specs.Log.{key_in, entry_place}
 use Rattle.log_borrowed.proofs.ViewLaws.{key-said, nowhere-said}
 use Rattle.lines.proofs.Laws.{stands-failed, event-behind, event-in-log, event-at-end}
 use Rattle.lines.proofs.steps.advance.Statement.{statement}

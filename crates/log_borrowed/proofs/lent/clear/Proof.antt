@@ -33,11 +33,11 @@ use denote.Triple.Entry.{on_entry}
 use denote.Triple.Spec.{Meets, triple_of}
 use denote.Triple.Table.{entered}
 use denote.Triple.Walked.{needs, Stays, stay_ref, walk_of, Goes-ref, Walks, ends_at, walked, walk_Meets}
-use Rattle.log.specs.declared.Head.{Head}
-use Rattle.log.proofs.Changes.{clear-done}
-use Rattle.log.proofs.Claims.{CanClear, says_both}
-use Rattle.log.specs.contracts.Head as T
-use Rattle.log.proofs.Head.TheLaws as T'
+use Rattle.event_log.specs.declared.Head.{Head}
+use Rattle.event_log.proofs.Changes.{clear-done}
+use Rattle.event_log.proofs.Claims.{CanClear, says_both}
+use Rattle.event_log.specs.contracts.Head as T
+use Rattle.event_log.proofs.Head.TheLaws as T'
 use Rattle.log_borrowed.specs.contracts.lent.clear.Key.{name as #log-borrowed·lent·clear}
 use Rattle.log_borrowed.specs.contracts.lent.clear as f
 use Rattle.log_borrowed.proofs.lent.clear.Statement as stated

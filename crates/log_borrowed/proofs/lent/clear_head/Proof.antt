@@ -38,10 +38,10 @@ use denote.Triple.Clauses.{ensured, lasts}
 use denote.Triple.Table.{entered, cited}
 use denote.Triple.Walked.{says, needs, Stays, stay_none, walk_of, Goes-none, Walks, ends_at, walked, walk_Meets}
 use denote.Exit.{yes}
-use Rattle.log.specs.declared.Head.{Head}
-use Rattle.log.specs.contracts.Head as T
-use Rattle.log.proofs.Head.TheLaws as T'
-use Rattle.log.proofs.Claims.{CanClear, Cleared, ClearedCounts, says_both, both-heard}
+use Rattle.event_log.specs.declared.Head.{Head}
+use Rattle.event_log.specs.contracts.Head as T
+use Rattle.event_log.proofs.Head.TheLaws as T'
+use Rattle.event_log.proofs.Claims.{CanClear, Cleared, ClearedCounts, says_both, both-heard}
 use Rattle.log_borrowed.specs.contracts.lent.clear as callee
 use Rattle.log_borrowed.proofs.lent.clear.Symbol as callee-def
 use Rattle.log_borrowed.proofs.lent.clear.Symbol.{name as #log-borrowed·lent·clear}

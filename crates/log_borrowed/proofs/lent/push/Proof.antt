@@ -50,17 +50,17 @@ use Rattle.rules.proofs.EventKey.TheLaws as K'
 use Rattle.rules.specs.contracts.Stamp as S
 use Rattle.rules.proofs.Stamp.TheLaws as S'
 use Rattle.rules.specs.declared.Stamp.TheVariants as Stamp
-use Rattle.log.specs.Log.{entry_place, put}
-use Rattle.log.specs.declared.Head.{Head}
-use Rattle.log.proofs.Changes.{pushed, push-done, push-fit}
-use Rattle.log.proofs.Claims.{CanPush, says_both}
+use Rattle.event_log.specs.Log.{entry_place, put}
+use Rattle.event_log.specs.declared.Head.{Head}
+use Rattle.event_log.proofs.Changes.{pushed, push-done, push-fit}
+use Rattle.event_log.proofs.Claims.{CanPush, says_both}
 use Rattle.log_borrowed.proofs.Passing.{passed-at, holding}
-use Rattle.log.specs.contracts.Head as T
-use Rattle.log.proofs.Head.TheLaws as T'
-use Rattle.log.specs.contracts.put as callee
-use Rattle.log.proofs.put.Symbol as callee-def
-use Rattle.log.proofs.put.Symbol.{name as #log·put}
-use Rattle.log.proofs.put.Met as callee-thm
+use Rattle.event_log.specs.contracts.Head as T
+use Rattle.event_log.proofs.Head.TheLaws as T'
+use Rattle.event_log.specs.contracts.put as callee
+use Rattle.event_log.proofs.put.Symbol as callee-def
+use Rattle.event_log.proofs.put.Symbol.{name as #log·put}
+use Rattle.event_log.proofs.put.Met as callee-thm
 use Rattle.log_borrowed.specs.contracts.lent.push.Key.{name as #log-borrowed·lent·push}
 use Rattle.log_borrowed.specs.contracts.lent.push as f
 use Rattle.log_borrowed.proofs.lent.push.Statement as stated

@@ -45,10 +45,10 @@ use denote.Exit.{yes}
 use Rattle.rules.specs.Quantities.{Key}
 use Rattle.rules.specs.contracts.EventKey as K
 use Rattle.rules.proofs.EventKey.TheLaws as K'
-use Rattle.log.specs.declared.Head.{Head}
-use Rattle.log.specs.contracts.Head as T
-use Rattle.log.proofs.Head.TheLaws as T'
-use Rattle.log.proofs.Claims.{CanPush, Pushed, PushedFits, says_both, both-heard}
+use Rattle.event_log.specs.declared.Head.{Head}
+use Rattle.event_log.specs.contracts.Head as T
+use Rattle.event_log.proofs.Head.TheLaws as T'
+use Rattle.event_log.proofs.Claims.{CanPush, Pushed, PushedFits, says_both, both-heard}
 use Rattle.log_borrowed.specs.contracts.lent.push as callee
 use Rattle.log_borrowed.proofs.lent.push.Symbol as callee-def
 use Rattle.log_borrowed.proofs.lent.push.Symbol.{name as #log-borrowed·lent·push}

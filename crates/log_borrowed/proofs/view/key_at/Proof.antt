@@ -44,16 +44,16 @@ use denote.Triple.Walked.{says, needs, Stays, stay_none, walk_of, Goes-none, Wal
 use denote.Exit.{yes}
 use denote.Triple.Clauses.{ensured, lasts}
 use Rattle.rules.specs.Log.{key_at}
-use Rattle.log.specs.Log.{Ring}
+use Rattle.event_log.specs.Log.{Ring}
 use Rattle.log_borrowed.specs.View.{view_of}
-use Rattle.log.specs.Answers.{key_answer}
+use Rattle.event_log.specs.Answers.{key_answer}
 use Rattle.log_borrowed.specs.declared.view.LogView.{LogView}
-use Rattle.log.specs.declared.KeyAt.{KeyAt}
+use Rattle.event_log.specs.declared.KeyAt.{KeyAt}
 use Rattle.log_borrowed.proofs.Passing.{passed-at, holding}
 use Rattle.log_borrowed.specs.contracts.view.LogView as T
 use Rattle.log_borrowed.proofs.view.LogView.TheLaws as T'
-use Rattle.log.specs.contracts.KeyAt as S
-use Rattle.log.proofs.KeyAt.TheLaws as S'
+use Rattle.event_log.specs.contracts.KeyAt as S
+use Rattle.event_log.proofs.KeyAt.TheLaws as S'
 use Rattle.log_borrowed.specs.contracts.view.key_in_keys as callee
 use Rattle.log_borrowed.proofs.view.key_in_keys.Symbol as callee-def
 use Rattle.log_borrowed.proofs.view.key_in_keys.Symbol.{name as #log-borrowed·view·key-in-keys}

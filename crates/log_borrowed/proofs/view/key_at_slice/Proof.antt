@@ -40,15 +40,15 @@ use denote.Triple.Walked.{says, needs, Stays, stay_none, stay_none_slice, walk_o
 use denote.Exit.{yes}
 use denote.Triple.Clauses.{ensured, lasts}
 use Rattle.rules.specs.Log.{key_at}
-use Rattle.log.specs.Log.{Ring}
+use Rattle.event_log.specs.Log.{Ring}
 use Rattle.log_borrowed.specs.View.{view_of}
-use Rattle.log.specs.Answers.{key_answer}
+use Rattle.event_log.specs.Answers.{key_answer}
 use Rattle.log_borrowed.specs.declared.view.LogView.{LogView}
-use Rattle.log.specs.declared.KeyAt.{KeyAt}
+use Rattle.event_log.specs.declared.KeyAt.{KeyAt}
 use Rattle.log_borrowed.specs.contracts.view.LogView as T
 use Rattle.log_borrowed.proofs.view.LogView.TheLaws as T'
-use Rattle.log.specs.contracts.KeyAt as S
-use Rattle.log.proofs.KeyAt.TheLaws as S'
+use Rattle.event_log.specs.contracts.KeyAt as S
+use Rattle.event_log.proofs.KeyAt.TheLaws as S'
 use Rattle.log_borrowed.specs.contracts.view.key_at as callee
 use Rattle.log_borrowed.proofs.view.key_at.Symbol as callee-def
 use Rattle.log_borrowed.proofs.view.key_at.Symbol.{name as #log-borrowed·view·key-at}

@@ -1,8 +1,8 @@
 use mathlib.Core.Path.{ap, sym, ◌∙◌}
 use native.Mathlib.Omega.{arith}
-use Rattle.log.specs.Answers.{key_answer}
-use Rattle.log.specs.Log.{key_in}
-use Rattle.log.specs.declared.KeyAt.TheVariants as KeyAt
+use Rattle.event_log.specs.Answers.{key_answer}
+use Rattle.event_log.specs.Log.{key_in}
+use Rattle.event_log.specs.declared.KeyAt.TheVariants as KeyAt
 use Rattle.log_borrowed.proofs.ViewLaws.{view-before, view_in, view-past}
 use borrow.Author.Rules.{rules}
 use Rattle.log_borrowed.proofs.view.key_in_keys.Statement.{statement}

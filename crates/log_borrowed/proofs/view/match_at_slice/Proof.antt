@@ -44,15 +44,15 @@ use Rattle.rules.specs.Quantities.{Key}
 use Rattle.rules.specs.Log.{key_at}
 use Rattle.rules.specs.contracts.EventKey as K
 use Rattle.rules.proofs.EventKey.TheLaws as K'
-use Rattle.log.specs.Log.{Ring}
+use Rattle.event_log.specs.Log.{Ring}
 use Rattle.log_borrowed.specs.View.{view_of}
-use Rattle.log.specs.Answers.{match_answer}
+use Rattle.event_log.specs.Answers.{match_answer}
 use Rattle.log_borrowed.specs.declared.view.LogView.{LogView}
-use Rattle.log.specs.declared.Matched.{Matched}
+use Rattle.event_log.specs.declared.Matched.{Matched}
 use Rattle.log_borrowed.specs.contracts.view.LogView as T
 use Rattle.log_borrowed.proofs.view.LogView.TheLaws as T'
-use Rattle.log.specs.contracts.Matched as S
-use Rattle.log.proofs.Matched.TheLaws as S'
+use Rattle.event_log.specs.contracts.Matched as S
+use Rattle.event_log.proofs.Matched.TheLaws as S'
 use Rattle.log_borrowed.specs.contracts.view.match_at as callee
 use Rattle.log_borrowed.proofs.view.match_at.Symbol as callee-def
 use Rattle.log_borrowed.proofs.view.match_at.Symbol.{name as #log-borrowed·view·match-at}

@@ -1,7 +1,7 @@
 use mathlib.Core.Path.{sym, ap, ◌∙◌}
 use mathlib.Core.Bool.{cond}
 use Rattle.rules.specs.Log.{key_at}
-use Rattle.log.specs.declared.Matched.TheVariants as Matched
+use Rattle.event_log.specs.declared.Matched.TheVariants as Matched
 use Rattle.log_borrowed.specs.View.{view_of}
 use Rattle.log_borrowed.proofs.ViewLaws.{beside, beside_none}
 use borrow.Author.Rules.{rules}

@@ -2,7 +2,7 @@ use borrow.Author.Rules.{rules}
 use mathlib.Core.Path.{sym}
 use native.Mathlib.Omega.{arith}
 use lib.ListN.{get_or-eq_default}
-use Rattle.json.proofs.Bounds.{any-default}
+use Rattle.json_text.proofs.Bounds.{any-default}
 use Rattle.member_order.proofs.compare.byte_in.Statement.{statement}
 use Rattle.member_order.proofs.compare.byte_in.Tie as tie
 

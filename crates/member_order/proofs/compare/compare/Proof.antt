@@ -4,8 +4,8 @@ use mathlib.Core.List.{◌∷◌}
 use Prim.Native.Nat.{◌+◌, ◌-◌, ◌<◌}
 use native.Mathlib.Omega.{arith}
 use lib.ListN.{length, drop}
-use Rattle.json.proofs.Bounds.{inside-by}
-use Rattle.json.specs.Work.{up_to_ff}
+use Rattle.json_text.proofs.Bounds.{inside-by}
+use Rattle.json_text.specs.Work.{up_to_ff}
 use Rattle.member_order.specs.Names.{name_in, order_of}
 use Rattle.member_order.proofs.NameSteps.{both-ended, first-equal, order-read}
 use Rattle.member_order.proofs.compare.compare.Statement.{statement}

@@ -1,5 +1,5 @@
 use borrow.Author.Rules.{rules}
-use Rattle.json.proofs.Bounds.{byte-at}
+use Rattle.json_text.proofs.Bounds.{byte-at}
 use Rattle.member_order.proofs.names.byte_of.Statement.{statement}
 use Rattle.member_order.proofs.names.byte_of.Tie as tie
 

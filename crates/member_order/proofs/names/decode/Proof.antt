@@ -4,8 +4,8 @@ use mathlib.Core.Path.{◌≡◌, sym, ◌∙◌}
 use mathlib.Core.Bool.{false}
 use lib.Dec.{eqb}
 use lib.ListN.{drop}
-use Rattle.json.specs.Work.{byte_at}
-use Rattle.json.proofs.Places.{byte-here}
+use Rattle.json_text.specs.Work.{byte_at}
+use Rattle.json_text.proofs.Places.{byte-here}
 use Rattle.member_order.proofs.DecodeLaws.{escape-text, decodes-front}
 use Rattle.member_order.proofs.names.decode.Statement.{statement}
 use Rattle.member_order.proofs.names.decode.Tie as tie

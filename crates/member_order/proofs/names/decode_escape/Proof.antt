@@ -5,11 +5,11 @@ use mathlib.Core.Bool.{false}
 use native.Mathlib.Omega.{arith}
 use lib.Dec.{ltb}
 use lib.ListN.{drop}
-use Rattle.json.specs.Bytes.{escape_of, is_scalar, joined}
-use Rattle.json.specs.Work.{byte_at, hex_at}
-use Rattle.json.proofs.Bounds.{byte-drop}
-use Rattle.json.proofs.Lengths.{hex-drop}
-use Rattle.json.proofs.Tests.{test_of}
+use Rattle.json_text.specs.Bytes.{escape_of, is_scalar, joined}
+use Rattle.json_text.specs.Work.{byte_at, hex_at}
+use Rattle.json_text.proofs.Bounds.{byte-drop}
+use Rattle.json_text.proofs.Lengths.{hex-drop}
+use Rattle.json_text.proofs.Tests.{test_of}
 use Rattle.member_order.specs.Names.{escape_text}
 use Rattle.member_order.proofs.DecodeLaws.{scalar-small, Halves, pair-halves}
 use Rattle.member_order.proofs.names.decode_escape.Statement.{statement}

@@ -1,7 +1,7 @@
 use borrow.Author.Rules.{rules}
 use borrow.Author.Tests.{lt-ltb, le-ltb}
 use native.Mathlib.Omega.{arith}
-use Rattle.json.specs.Bytes.{utf8}
+use Rattle.json_text.specs.Bytes.{utf8}
 use Rattle.member_order.proofs.names.utf8_of.Statement.{statement}
 use Rattle.member_order.proofs.names.utf8_of.Tie as tie
 

@@ -3,7 +3,7 @@ use Prim.Native.Nat.{◌+◌}
 use native.Mathlib.Omega.{arith}
 use Rattle.rules.specs.Log.{clear}
 use Rattle.store.proofs.EntryLaws.{below, head_done}
-use Rattle.log.specs.declared.Head.{Head}
+use Rattle.event_log.specs.declared.Head.{Head}
 use borrow.Author.Rules.{rules}
 use Rattle.store.proofs.entries.clear_log.Statement.{statement}
 use Rattle.store.proofs.entries.clear_log.Tie as tie

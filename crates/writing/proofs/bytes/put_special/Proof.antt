@@ -2,9 +2,9 @@ use borrow.Author.Rules.{rules}
 use mathlib.Core.Path.{◌≡◌, refl, ◌∙◌}
 use native.Mathlib.Omega.{arith}
 use lib.ListN.{drop}
-use Rattle.json.specs.Work.{char_len}
-use Rattle.json.proofs.Lengths.{char-special}
-use Rattle.json.proofs.StringSteps.{char-inside}
+use Rattle.json_text.specs.Work.{char_len}
+use Rattle.json_text.proofs.Lengths.{char-special}
+use Rattle.json_text.proofs.StringSteps.{char-inside}
 use Rattle.writing.proofs.bytes.put_special.Statement.{statement}
 use Rattle.writing.proofs.bytes.put_special.Tie as tie
 

@@ -3,9 +3,9 @@ use mathlib.Core.Path.{refl}
 use Prim.Native.Nat.{◌+◌, ◌-◌, ◌≤◌}
 use native.Mathlib.Omega.{arith}
 use lib.ListN.{length, drop, length-set}
-use Rattle.json.specs.Bytes.{plain}
-use Rattle.json.proofs.StringSteps.{chars-over, chars-closed}
-use Rattle.json.proofs.Tests.{test_of}
+use Rattle.json_text.specs.Bytes.{plain}
+use Rattle.json_text.proofs.StringSteps.{chars-over, chars-closed}
+use Rattle.json_text.proofs.Tests.{test_of}
 use Rattle.member_order.specs.Names.{chars_text}
 use Rattle.member_order.proofs.TextSteps.{text-over, text-closed}
 use Rattle.writing.proofs.PutLaws.{

@@ -3,7 +3,7 @@ use mathlib.Core.Path.{◌≡◌, refl, ◌∙◌}
 use Prim.Native.Nat.{◌-◌, ◌≤◌}
 use native.Mathlib.Omega.{arith}
 use lib.ListN.{length}
-use Rattle.json.proofs.Places.{place-behind}
+use Rattle.json_text.proofs.Places.{place-behind}
 use Rattle.writing.specs.Places.{Ends}
 use Rattle.writing.proofs.Gathering.{Gathering, gathered_none, gathering-starts, here, place_inside, gathered-all, gathering-goes-on}
 use Rattle.writing.proofs.collect.collect.Statement.{statement}

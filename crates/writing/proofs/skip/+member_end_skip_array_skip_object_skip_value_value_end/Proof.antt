@@ -5,8 +5,8 @@ use mathlib.Core.Path.{◌≡◌, refl, ◌∙◌}
 use Prim.Native.Nat.{ℕ, ◌+◌, ◌*◌, ◌-◌, ◌<◌}
 use native.Mathlib.Omega.{arith}
 use lib.ListN.{length}
-use Rattle.json.specs.Values.{Members}
-use Rattle.json.proofs.Places.{place-behind}
+use Rattle.json_text.specs.Values.{Members}
+use Rattle.json_text.proofs.Places.{place-behind}
 use Rattle.writing.specs.Places.{Spans, Ends}
 use Rattle.writing.proofs.Arrays.{InArray, array-none, array-first, item-spans, array-over, array-next}
 use Rattle.writing.proofs.Objects.{InObject, object-none, object-first, member-first, object-over, object-next}
@@ -31,9 +31,9 @@ use Rattle.writing.proofs.skip.value_end.Kinds as end-kinds
 use Rattle.writing.proofs.skip.+member_end_skip_array_skip_object_skip_value_value_end.Lts-value_end as end-lts
 use Rattle.writing.proofs.skip.scalar_end.Reads as scalar-end-reads
 use Rattle.writing.proofs.skip.wide.Reads as wide-reads
-use Rattle.json.proofs.bytes.byte.Reads as byte-Reads
-use Rattle.json.proofs.bytes.skip_ws.Reads as skip-ws-reads
-use Rattle.json.proofs.strings.skip_string.Reads as skip-string-reads
+use Rattle.json_text.proofs.bytes.byte.Reads as byte-Reads
+use Rattle.json_text.proofs.bytes.skip_ws.Reads as skip-ws-reads
+use Rattle.json_text.proofs.strings.skip_string.Reads as skip-string-reads
 use Rattle.writing.proofs.skip.+member_end_skip_array_skip_object_skip_value_value_end.{statement}
 use Rattle.writing.proofs.skip.+member_end_skip_array_skip_object_skip_value_value_end.Tie.{close}
 

@@ -2,7 +2,7 @@ use borrow.Author.Rules.{rules}
 use mathlib.Core.Path.{◌≡◌, sym, ◌∙◌}
 use native.Mathlib.Omega.{arith}
 use lib.ListN.{length-set}
-use Rattle.json.specs.Work.{byte_at}
+use Rattle.json_text.specs.Work.{byte_at}
 use Rattle.writing.proofs.ScalarLaws.{some-room, null-wrote, true-room, true-wrote, false-room, false-wrote, is_false}
 use Rattle.writing.proofs.write.write_literal.Statement.{statement}
 use Rattle.writing.proofs.write.write_literal.Tie as tie

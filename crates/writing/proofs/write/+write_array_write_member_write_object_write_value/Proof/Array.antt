@@ -3,8 +3,8 @@ use mathlib.Core.Path.{sym, ◌∙◌, ap}
 use Prim.Native.Nat.{ℕ, ◌-◌}
 use native.Mathlib.Omega.{arith}
 use lib.ListN.{length}
-use Rattle.json.proofs.Inversion.{ItemsAt}
-use Rattle.json.proofs.Places.{place-behind}
+use Rattle.json_text.proofs.Inversion.{ItemsAt}
+use Rattle.json_text.proofs.Places.{place-behind}
 use Rattle.writing.proofs.ArrayLaws.{Progress, array-room, array-none, array-first, item-writable, item-done, items_more, items-last}
 use Rattle.writing.proofs.RankLaws.{rank-item}
 use Rattle.writing.proofs.write.write_array.Reads as reads

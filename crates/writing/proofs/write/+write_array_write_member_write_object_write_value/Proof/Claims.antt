@@ -21,8 +21,8 @@ use Rattle.writing.proofs.bytes.put_string.Reads as put-string-reads
 use Rattle.writing.proofs.collect.collect.Reads as collect-reads
 use Rattle.member_order.proofs.sort.wide.Reads as wide-reads
 use Rattle.writing.proofs.write.write_scalar.Reads as write-scalar-reads
-use Rattle.json.proofs.bytes.byte.Reads as byte-Reads
-use Rattle.json.proofs.bytes.skip_ws.Reads as skip-ws-reads
+use Rattle.json_text.proofs.bytes.byte.Reads as byte-Reads
+use Rattle.json_text.proofs.bytes.skip_ws.Reads as skip-ws-reads
 use Rattle.member_order.proofs.sort.sort.Reads as sort-reads
 
 abbrev pub μ-write-array : Measures 6 write-array-kinds.ps ℕ

@@ -1,0 +1,12 @@
+use borrow.Author.Tests.{eq-eqb, ne_eqb}
+use Rattle.event_log.proofs.same_key.Statement.{statement}
+use Rattle.event_log.proofs.same_key.Tie as tie
+
+returns : tie.Need-returns
+returns c = rw (eq-eqb _ _ c.before.before.if1.true)
+
+returns-2 : tie.Need-returns-2
+returns-2 c = rw (ne_eqb _ _ c.if1.false)
+
+pub same-key-spec : {M : Type 1} → statement M
+same-key-spec = tie.close (tie.spec returns returns-2)

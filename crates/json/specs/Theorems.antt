@@ -1,8 +1,0 @@
--- What is proved of the grammar.
-use Rattle.std.specs.Prelude.{◌≡◌, List, ℕ}
-use Rattle.json.specs.Grammar.{Text}
-use Rattle.json.specs.Values.{Value}
-
--- a text has at most one value
-abbrev pub OneValue : Type 0
-OneValue = (t : List ℕ) (v w : Value) → Text t v → Text t w → v ≡ w
