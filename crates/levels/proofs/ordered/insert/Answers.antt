@@ -1,0 +1,7 @@
+use native.Mathlib.Omega.{arith}
+use Rattle.levels.proofs.Shifts.{opened-levels}
+use Rattle.levels.proofs.ordered.insert.Goals as goal
+
+pub returns : goal.returns
+returns c =
+    opened-levels _ _ _ _ _ _ _ _ c.requires.0 (omega arith) (omega arith) c.open_prices.ensures c.open_sizes.ensures

@@ -1,0 +1,14 @@
+use Rattle.place.proofs.Items.{items-none}
+use Rattle.lines.proofs.Line.out_of_line.Goals as goal
+
+pub returns-in-Waiting : goal.returns-in-Waiting
+returns-in-Waiting c w = cc
+
+pub returns-in-Pending : goal.returns-in-Pending
+returns-in-Pending c w = cc
+
+pub returns-in-InLine : goal.returns-in-InLine
+returns-in-InLine c w = rw (c.in-InLine.is, items-none w)
+
+pub returns-in-Failed : goal.returns-in-Failed
+returns-in-Failed c w = cc

@@ -1,0 +1,29 @@
+use Rattle.words.proofs.Cases.{says-yes, says-no}
+use Rattle.store.specs.Store.{Sound}
+use mathlib.Core.Path.{ap, ◌∙◌}
+use Rattle.rules.specs.Refusals as Rules
+use Rattle.rules.specs.Answers.{value}
+use Rattle.queries.proofs.QueryLaws.{query-met, query-unmet}
+use borrow.Author.Rules.{rules}
+use Rattle.queries.proofs.servable.Goals as goal
+
+pub is_sound-requires : goal.is_sound-requires
+is_sound-requires c = search rules
+
+pub servable-requires : goal.servable-requires
+servable-requires c = says-yes (Sound _) c.is_sound.ensures c.if-is_sound.true
+
+pub answer-requires : goal.answer-requires
+answer-requires c = search rules
+
+pub returns-then-is_sound : goal.returns-then-is_sound
+returns-then-is_sound c =
+    let a = c.args in
+    query-met Rules.servable a.s.now _
+    (says-yes (Sound _) c.is_sound.ensures c.if-is_sound.true)
+    (c.answer.ensures ∙ ap value c.servable.ensures)
+
+pub returns : goal.returns
+returns c =
+    let a = c.args in
+    query-unmet Rules.servable a.s.now (says-no (Sound _) c.is_sound.ensures c.if-is_sound.false)

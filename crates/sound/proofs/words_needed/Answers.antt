@@ -1,0 +1,33 @@
+use Rattle.sound.proofs.RangeLaws.{bounds}
+use native.Mathlib.Omega.{arith}
+use Rattle.sound.proofs.words_needed.Goals as goal
+
+pub overflow_mul-result : goal.overflow_mul-result
+overflow_mul-result c = let b = bounds c.args.l c.requires in omega arith
+
+pub overflow_add-result : goal.overflow_add-result
+overflow_add-result c = let b = bounds c.args.l c.requires in omega arith
+
+pub overflow_mul-result-2 : goal.overflow_mul-result-2
+overflow_mul-result-2 c = let b = bounds c.args.l c.requires in omega arith
+
+pub overflow_add-result-2 : goal.overflow_add-result-2
+overflow_add-result-2 c = let b = bounds c.args.l c.requires in omega arith
+
+pub overflow_mul-result-3 : goal.overflow_mul-result-3
+overflow_mul-result-3 c = let b = bounds c.args.l c.requires in omega arith
+
+pub overflow_add-result-3 : goal.overflow_add-result-3
+overflow_add-result-3 c = let b = bounds c.args.l c.requires in omega arith
+
+pub overflow_mul-result-4 : goal.overflow_mul-result-4
+overflow_mul-result-4 c = let b = bounds c.args.l c.requires in omega arith
+
+pub overflow_add-result-4 : goal.overflow_add-result-4
+overflow_add-result-4 c = let b = bounds c.args.l c.requires in omega arith
+
+pub overflow_mul-result-5 : goal.overflow_mul-result-5
+overflow_mul-result-5 c = let b = bounds c.args.l c.requires in omega arith
+
+pub overflow_add-result-5 : goal.overflow_add-result-5
+overflow_add-result-5 c = let b = bounds c.args.l c.requires in omega arith

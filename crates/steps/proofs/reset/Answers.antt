@@ -1,0 +1,9 @@
+use Rattle.rules.specs.Refusals.{step}
+use Rattle.steps.proofs.reset.Goals as goal
+
+pub returns : goal.returns
+unfolding step
+returns c = c.reset.ensures
+
+pub reset-requires : goal.reset-requires
+reset-requires c = c.requires

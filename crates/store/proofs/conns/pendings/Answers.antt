@@ -1,0 +1,46 @@
+use mathlib.Core.Logic.{⊎_elim}
+use Prim.Native.Nat.{◌-◌}
+use native.Mathlib.Omega.{arith}
+use Rattle.rules.specs.Entering.{pendings}
+use Rattle.store.proofs.ConnLaws.{pending-here, pending-over, pending-end, pendings-fit}
+use Rattle.store.proofs.conns.pendings.Goals as goal
+
+pub loop-i-init : goal.loop-i-init
+loop-i-init c = (omega arith, omega arith)
+
+pub line_at-requires : goal.line_at-requires
+line_at-requires c = record { lined = c.requires; here = omega arith }
+
+pub overflow_add-pending : goal.overflow_add-pending
+overflow_add-pending c =
+    let w = c.args.s.now in
+    let q = pending-here w c.loop-i.i (omega arith) _ c.line_at.ensures _ c.pending.ensures c.if-pending.true in
+    let f = pendings-fit w in
+    omega arith
+
+pub loop-i-preserved : goal.loop-i-preserved
+loop-i-preserved c =
+    let w = c.args.s.now in
+    let a = c.line_at.ensures in
+    let b = c.pending.ensures in
+    ⊎_elim
+    (λ e. let q = pending-here w c.loop-i.i (omega arith) _ a _ b e.0.taken in (omega arith, omega arith))
+    (λ e. let q = pending-over w c.loop-i.i (omega arith) _ a _ b e.0.left in (omega arith, omega arith))
+    c.if-pending.branch
+
+pub returns : goal.returns
+returns c =
+    let q = pending-end c.args.s.now c.loop-i.i (omega arith) in
+    omega arith
+
+pub bounds-s-9 : goal.bounds-s-9
+bounds-s-9 c = omega arith
+
+pub pending-requires : goal.pending-requires
+pending-requires c = tt
+
+pub overflow_add-i : goal.overflow_add-i
+overflow_add-i c = omega arith
+
+pub loop-i-smaller : goal.loop-i-smaller
+loop-i-smaller c = omega arith

@@ -1,0 +1,12 @@
+use mathlib.Core.Path.{◌≡◌}
+use Prim.Native.Nat.{◌+◌, ◌-◌, ◌≤◌}
+use lib.ListN.{drop}
+use Rattle.rules.specs.Entering.{pendings}
+use Rattle.store.specs.Store.{market_of}
+use Rattle.store.proofs.conns.pendings.Given as goal
+
+abbrev pub invariant-loop-i : goal.invariant-loop-i
+invariant-loop-i l = (l.i ≤ l.n) × (l.pending + pendings (drop l.i (market_of l.s).lines) ≡ pendings (market_of l.s).lines)
+
+abbrev pub decreases-loop-i : goal.decreases-loop-i
+decreases-loop-i l = l.n - l.i

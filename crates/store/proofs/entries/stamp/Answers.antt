@@ -1,0 +1,10 @@
+use mathlib.Core.Path.{refl}
+use Rattle.rules.specs.Log.{stamp}
+use Rattle.store.proofs.EntryLaws.{below, head_done}
+use Rattle.store.proofs.entries.stamp.Goals as goal
+
+pub returns : goal.returns
+returns c =
+    let r = c.stamp-new.ensures in
+    let q = c.head.ensures in
+    head_done refl c.requires q c.stamp-new.result (stamp c.args.t) (below refl c.requires q r.1.1.1) (r.0 _ _) c.put_head.ensures

@@ -1,0 +1,21 @@
+use Prim.Native.Nat.{◌-◌}
+use lib.ListN.{length}
+use Rattle.writing.proofs.PutLaws.{
+  no-rest,
+  same_rest,
+  Partly,
+  partly_none,
+  partly-room,
+  partly-ends,
+  partly-plain,
+  partly-char-room,
+  partly-special,
+  partly-stuck,
+}
+use Rattle.writing.proofs.bytes.put_string.Given as goal
+
+abbrev pub invariant-loop-i : goal.invariant-loop-i
+invariant-loop-i l = Partly l.text l.at l.initial.out l.out l.pos l.i l.end
+
+abbrev pub decreases-loop-i : goal.decreases-loop-i
+decreases-loop-i l = length l.text - l.i

@@ -1,0 +1,23 @@
+use mathlib.Core.Path.{sym, ◌∙◌}
+use Rattle.writing.proofs.ScalarLaws.{minus-begins, digit-begins, neither-begins}
+use Rattle.writing.proofs.write.write_scalar.Goals as goal
+
+pub write_number-requires : goal.write_number-requires
+write_number-requires c =
+    (c.requires.0, minus-begins _ (sym c.byte-b.ensures ∙ c.if-b-eq45.true))
+
+pub write_number-requires-then-is_digit : goal.write_number-requires-then-is_digit
+write_number-requires-then-is_digit c =
+    (c.requires.0, digit-begins _ _ c.byte-b.ensures (sym c.is_digit.ensures ∙ c.if-is_digit.true))
+
+pub write_literal-requires : goal.write_literal-requires
+write_literal-requires c =
+    let e = c.byte-b.ensures in
+    let p = c.requires in (
+      p.0,
+      e,
+      c.if-b-eq34.false,
+      λ z. p.1 (sym e ∙ z),
+      λ z. p.2 (sym e ∙ z),
+      neither-begins _ c.if-b-eq45.false (sym c.is_digit.ensures ∙ c.if-is_digit.false),
+    )
