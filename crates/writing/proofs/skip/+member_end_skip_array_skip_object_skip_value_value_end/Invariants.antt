@@ -35,4 +35,3 @@ invariant-skip_object-loop-at l = ((e : ℕ) × (ms : Members) × Spans l.text l
 
 abbrev pub decreases-skip_object-loop-at : goal.decreases-skip_object-loop-at
 decreases-skip_object-loop-at l = length l.text - l.i
-
