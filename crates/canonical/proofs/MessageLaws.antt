@@ -2,7 +2,7 @@
 use mathlib.Core.Path.{◌≡◌, refl, sym, ◌∙◌, ap, subst}
 use mathlib.Core.Bool.{false}
 use mathlib.Core.List.{List, ◌++◌}
-use Prim.Native.Nat.{ℕ, zero, suc, ◌*◌, ◌≤◌}
+use Prim.Native.Nat.{ℕ, zero, suc, ◌*◌, ◌≤◌, ◌<◌}
 use native.Mathlib.Omega.{arith}
 use lib.ListN.{length, drop, get_or, length-drop}
 use Rattle.json_text.specs.Bytes.{is_digit, within}
@@ -17,7 +17,8 @@ use Rattle.json_text.proofs.OneValue.{val-only}
 use Rattle.json_text.proofs.Spaces.{ws-skips, skip-front}
 use Rattle.content.proofs.Fits.{val-fits}
 use Rattle.writing.specs.declared.Spot.{Spot}
-use Rattle.canonical.specs.Calls.{Message, WroteMessage}
+use Rattle.canonical.specs.declared.Answer.TheVariants as Answer
+use Rattle.canonical.specs.Calls.{Message, WroteMessage, Answered, least, no_room, refused}
 use Rattle.writing.specs.Places.{Spans}
 use Rattle.writing.specs.Writing.{Writable, Wrote}
 use Rattle.writing.proofs.Parts.{past-val, place-past}
@@ -86,6 +87,10 @@ pub message-of : {t : List ℕ} {n : ℕ} → Judged t n → n ≡ 0 → Message
 message-of (too_long h) e = absurd (omega arith)
 message-of (no_text h) e = absurd (omega arith)
 message-of (judged {v} h x f) e = record { short = h; value = v; text = x; faultless = f ∙ e }
+
+-- an output that is too short is refused
+pub short_output : (t out : List ℕ) → length out < least → Answered t out out (Answer.Refused 3)
+short_output t out h = refused (no_room h)
 
 zeros-at : (n p : ℕ) → get_or (zeros n) p 0 ≡ 0
 zeros-at zero p = refl

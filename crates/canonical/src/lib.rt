@@ -85,6 +85,7 @@ fn write_accepted(text: &[u8], out: &mut [u8]) -> usize
 }
 
 // The canonical bytes of a message, at the front of the output. A refusal changes nothing.
+#[tactic(auto, using(crate::proofs::MessageLaws::short_output))]
 pub fn canonical(text: &[u8], out: &mut [u8]) -> Answer
     ensures { Answered text.now out.old out.new result }
 {

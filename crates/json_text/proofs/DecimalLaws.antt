@@ -65,3 +65,9 @@ module _ (t : List ℕ) (i to n b : ℕ) (e : b ≡ byte_at t i) (h : i < to) (k
 
   pub decimal-large : is_digit b ≡ true → 2 ^ 64 ≤ n * 10 + (b - 0x30) → decimal_from n (take (to - i) (drop i t)) ≡ Decimal.Outside
   decimal-large d l = decimal-on d ∙ decimal-over (n * 10 + (b - 0x30)) _ l
+
+-- a further digit that no longer fits
+pub digits_large :
+    (t : List ℕ) (i to n : ℕ) → i < to → to ≤ length t → is_digit (byte_at t i) ≡ true → 2 ^ 64 ≤ n * 10 + (byte_at t i - 0x30) →
+    decimal_from n (take (to - i) (drop i t)) ≡ Decimal.Outside
+digits_large t i to n h k d l = decimal-large t i to n (byte_at t i) refl h k d l

@@ -124,6 +124,7 @@ pub fn number_end(text: &[u8], at: usize) -> End
 }
 
 // The number that the bytes from one place up to another write.
+#[tactic(auto, using(crate::proofs::DecimalLaws::digits_large))]
 fn decimal_of(text: &[u8], from: usize, to: usize) -> Decimal
     requires { (from ≤ to) × (to ≤ length text.now) }
     ensures { result ≡ decimal_of (take (to - from) (drop from text.now)) }

@@ -45,6 +45,7 @@ fn key_in_32768(text: &[u8]) -> EventKey
 }
 
 // The key of a message of up to 4,096 bytes, or the number of the refusal.
+#[tactic(auto, using(crate::proofs::Laws::no_key))]
 pub fn key_of_short(text: &[u8]) -> Keyed
     requires { length text.now ≤ 4096 }
     ensures { Answers text.now result }

@@ -11,13 +11,6 @@ returns-then-not-is_digit c =
     let e = c.byte-b.ensures in
     sym (c.loop-i.invariant.0 ∙ decimal-stop a.text.now c.loop-i.i a.to c.loop-i.n _ e (search rules) (search rules) d)
 
-pub returns-then-n-gt1844674407370955161 : goal.returns-then-n-gt1844674407370955161
-returns-then-n-gt1844674407370955161 c =
-    let a = c.args in
-    let d = sym c.is_digit.ensures ∙ c.if-not-is_digit.false in
-    let e = c.byte-b.ensures in
-    sym (c.loop-i.invariant.0 ∙ decimal-large a.text.now c.loop-i.i a.to c.loop-i.n _ e (search rules) (search rules) d (search rules))
-
 pub overflow_sub-digit : goal.overflow_sub-digit
 overflow_sub-digit c =
     let d = sym c.is_digit.ensures ∙ c.if-not-is_digit.false in

@@ -36,9 +36,6 @@ returns c =
 pub overflow_sub-k : goal.overflow_sub-k
 overflow_sub-k c = omega arith
 
-pub bounds-s-k : goal.bounds-s-k
-bounds-s-k c = omega arith
-
 pub wide-requires : goal.wide-requires
 wide-requires c = omega arith
 
