@@ -11,7 +11,7 @@ pub returns-then-not-sound : goal.returns-then-not-sound
 returns-then-not-sound c =
     let a = c.args in
     let e = sym c.sound.ensures ∙ c.if-not-sound.true in
-    (sym (trim-unsound (book_of a.depth) (reported a.best-bid) (reported a.best-ask) e), refl)
+    (sym (trim-unsound (book_of a.depth) (reported a.best_bid) (reported a.best_ask) e), refl)
 
 pub trim_side-kept_bids-requires : goal.trim_side-kept_bids-requires
 trim_side-kept_bids-requires c = sound-bids (book_of c.args.depth) ((let whole_is : sound (book_of c.args.depth) ≡ true = sym c.sound.ensures ∙ c.if-not-sound.false in whole_is))
@@ -24,4 +24,4 @@ returns c =
     let a = c.args in
     let e = c.trim_side-kept_bids.ensures in
     let f = c.trim_side-kept_asks.ensures in
-    ((λ i. value (record { bids = e i; asks = f i })) ∙ sym (trim-done (book_of a.depth) (reported a.best-bid) (reported a.best-ask) ((let whole_is : sound (book_of c.args.depth) ≡ true = sym c.sound.ensures ∙ c.if-not-sound.false in whole_is))), tt)
+    ((λ i. value (record { bids = e i; asks = f i })) ∙ sym (trim-done (book_of a.depth) (reported a.best_bid) (reported a.best_ask) ((let whole_is : sound (book_of c.args.depth) ≡ true = sym c.sound.ensures ∙ c.if-not-sound.false in whole_is))), tt)

@@ -58,10 +58,10 @@ pub loop-i-preserved : goal.loop-i-preserved
 loop-i-preserved c =
     let a = c.args in
     let l = c.loop-i in
-    let x : Level = level_in a.t1 a.t2 l.i in (
+    let x : Level = level_in a.prices a.sizes l.i in (
       omega arith,
       length-set l.levels (a.count - 1 - l.i) x ∙ l.invariant.1,
-      join_more l.levels a.count a.t1 a.t2 l.i l.invariant.2 (omega arith) (omega arith),
+      join_more l.levels a.count a.prices a.sizes l.i l.invariant.2 (omega arith) (omega arith),
     )
 
 -- src/columns.rt:32:1
