@@ -3,7 +3,7 @@ use mathlib.Core.Path.{refl, ◌∙◌}
 use Prim.Native.Nat.{◌-◌}
 use native.Mathlib.Nat.{not-suc-le-zero}
 use native.Mathlib.Omega.{arith}
-use lib.ListN.{length, length-set}
+use lib.ListN.{length-set}
 use Rattle.levels.specs.declared.Level.{Level}
 use Rattle.levels.specs.Work.{level_in}
 use Rattle.depth.proofs.Splitting.{join_more}
