@@ -66,13 +66,13 @@ returns-then-size-2 c = (
 pub returns-then-count-lt512 : goal.returns-then-count-lt512
 unfolding of_bits
 returns-then-count-lt512 c = (
-  new (reached c.args.falling c.args.prices.now c.args.sizes.now c.args.count c.args.price c.place-at.result c.args.size c.standing.result c.requires (sym c.price_allowed.ensures ∙ c.if-not-price_allowed.false) (sym c.size_allowed.ensures ∙ c.if-not-size_allowed.false) c.place-at.ensures c.standing.ensures) c.if-standing.false c.if-size-2.false c.if-count-lt512.true c.insert.ensures,
+  new (reached c.args.falling c.args.prices.now c.args.sizes.now c.args.count c.args.price c.place-at.result c.args.size c.standing.result c.requires (sym c.price_allowed.ensures ∙ c.if-not-price_allowed.false) (sym c.size_allowed.ensures ∙ c.if-not-size_allowed.false) c.place-at.ensures c.standing.ensures) c.if-standing.false c.if-size-2.false (omega arith) c.insert.ensures,
   tt,
 )
 
 pub returns-else-count-lt512 : goal.returns-else-count-lt512
 unfolding of_bits
 returns-else-count-lt512 c = (
-  refused-14 (reached c.args.falling c.args.prices.now c.args.sizes.now c.args.count c.args.price c.place-at.result c.args.size c.standing.result c.requires (sym c.price_allowed.ensures ∙ c.if-not-price_allowed.false) (sym c.size_allowed.ensures ∙ c.if-not-size_allowed.false) c.place-at.ensures c.standing.ensures) c.if-standing.false c.if-size-2.false c.if-count-lt512.false,
+  refused-14 (reached c.args.falling c.args.prices.now c.args.sizes.now c.args.count c.args.price c.place-at.result c.args.size c.standing.result c.requires (sym c.price_allowed.ensures ∙ c.if-not-price_allowed.false) (sym c.size_allowed.ensures ∙ c.if-not-size_allowed.false) c.place-at.ensures c.standing.ensures) c.if-standing.false c.if-size-2.false (omega arith),
   (refl, refl),
 )
