@@ -5,16 +5,13 @@ use Rattle.std.specs.Float.{nan}
 use Rattle.words.specs.Words.{tab}
 use Rattle.rules.specs.Answers.{Queried, refusal, value}
 use Rattle.rules.specs.declared.Changed.{Changed}
-use Rattle.rules.specs.declared.Changed.TheVariants as Changed
 use Rattle.levels.specs.declared.Level.{Level}
 use Rattle.levels.specs.Depth.{Book}
 use Rattle.levels.specs.Work.{level_in}
 use Rattle.depth.specs.declared.Side.{Side}
 use Rattle.depth.specs.declared.Depth.{Depth}
 use Rattle.depth.specs.declared.Quoted.{Quoted}
-use Rattle.depth.specs.declared.Quoted.TheVariants as Quoted
 use Rattle.depth.specs.declared.Summed.{Summed}
-use Rattle.depth.specs.declared.Summed.TheVariants as Summed
 
 -- past the end of an array
 abbrev pub blank : Level

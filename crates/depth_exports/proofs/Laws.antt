@@ -1,15 +1,13 @@
 -- What the answers in numbers say: the test of a depth, a level set on a side and in a depth, and the best level of a side.
 use mathlib.Core.Path.{◌≡◌, sym, ap, ◌∙◌}
-use mathlib.Core.Bool.{Bool, true, false, not}
+use mathlib.Core.Bool.{Bool, true, false}
 use mathlib.Core.List.{List}
 use mathlib.Core.Option.{none, some}
 use Prim.Native.Nat.{ℕ, zero, suc, ◌-◌, ◌≤◌, ◌<◌}
 use native.Mathlib.Omega.{arith}
 use native.Mathlib.Nat.{not-suc-le-zero}
 use lib.Ieee.{Float}
-use borrow.Author.Tests.{not-true, not-false}
 use Rattle.levels.specs.declared.Set.{Set}
-use Rattle.levels.specs.declared.Set.TheVariants as Set
 use Rattle.levels.specs.Depth.{Book, best_of, set_side, side_of, sound, set, with_side}
 use Rattle.levels.specs.Work as Work
 use Rattle.levels.specs.Work.{level_in, side_in, Falling, Stays}
@@ -20,11 +18,11 @@ use Rattle.depth_exports.specs.Told.{Arrays, arrays, book_in, told, told_set, Te
 -- ---- the test of a depth
 
 module _ (b : Book) (r : Bool) (tested : r ≡ sound b) where
-  pub is-sound : not r ≡ false → sound b ≡ true
-  is-sound e = sym tested ∙ not-false r e
+  pub is-sound : r ≡ true → sound b ≡ true
+  is-sound e = sym tested ∙ e
 
-  pub is-unsound : not r ≡ true → sound b ≡ false
-  is-unsound e = sym tested ∙ not-true r e
+  pub is-unsound : r ≡ false → sound b ≡ false
+  is-unsound e = sym tested ∙ e
 
 -- both sides lie as the work on a side asks
 module _ (x : Arrays) (bids asks : ℕ) (good : sound (book_in x bids asks) ≡ true) where

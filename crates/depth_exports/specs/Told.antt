@@ -4,7 +4,6 @@ use Rattle.std.proofs.Math.Option.{Option, none, some}
 use Rattle.rules.specs.Answers.{Queried, refusal, value}
 use Rattle.levels.specs.declared.Level.{Level}
 use Rattle.levels.specs.declared.Set.{Set}
-use Rattle.levels.specs.declared.Set.TheVariants as Set
 use Rattle.levels.specs.Depth.{Book}
 use Rattle.levels.specs.Work.{side_in}
 

@@ -14,7 +14,6 @@ use Rattle.rules.proofs.Tests.{by_cond}
 use Rattle.words.proofs.Tab.{tab-suc, tab-from, map-tab}
 use Rattle.levels.specs.declared.Level.{Level}
 use Rattle.levels.specs.declared.Set.{Set}
-use Rattle.levels.specs.declared.Set.TheVariants as Set
 use Rattle.levels.specs.Depth.{most, better, price_allowed, size_allowed, is_zero, level_at, new_level, set_level, set_side, side_sound, trim_side}
 use Rattle.levels.specs.Depth.{sizes_of, total, plus_zero, bid_depth_from, ask_depth_to, best_of}
 use Rattle.levels.specs.Work.{level_in, levels_of, side_in, sizes_in, Falling, Place, Through, as_laid, as_side}

@@ -91,6 +91,20 @@ pub record Reached (bid : Bool) (ps : List ℕ) (ss : List Float) (n p at : ℕ)
   pub place : Place bid ps n p at
   pub tested : there ≡ (ltb at n && eqb (get_or ps at 0) p)
 
+-- so far, from what the calls on the way ensure
+pub reached : (bid : Bool) (ps : List ℕ) (ss : List Float) (n p at : ℕ) (s : Float) (there : Bool) → side_sound bid (levels_of ps ss n) ≡ true → price_allowed p ≡ true
+    → size_allowed s ≡ true
+    → Place bid ps n p at
+    → there ≡ (ltb at n && eqb (get_or ps at 0) p)
+    → Reached bid ps ss n p at s there
+reached bid ps ss n p at s there sound price size place tested = record {
+  sound = sound;
+  price = price;
+  size = size;
+  place = place;
+  tested = tested;
+}
+
 module _ {bid : Bool} {ps : List ℕ} {ss : List Float} {n p at : ℕ} {s : Float} {there : Bool} (r : Reached bid ps ss n p at s there) where
   pub counted : n ≤ most
   counted = sound-count bid ps ss n r.sound

@@ -5,9 +5,7 @@ use Rattle.std.specs.Float.{nan}
 use Rattle.words.specs.Words.{tab}
 use Rattle.levels.specs.declared.Level.{Level}
 use Rattle.levels.specs.declared.Reported.{Reported}
-use Rattle.levels.specs.declared.Reported.TheVariants as Reported
 use Rattle.levels.specs.declared.Set.{Set}
-use Rattle.levels.specs.declared.Set.TheVariants as Set
 use Rattle.rules.specs.Answers.{Queried, refusal, value}
 use Rattle.levels.specs.Depth.{better, trim_side}
 

@@ -5,7 +5,6 @@ use Prim.Native.Nat.{ℕ}
 use lib.Ieee.{Float}
 use Rattle.rules.specs.Answers.{Queried}
 use Rattle.rules.specs.declared.Changed.{Changed}
-use Rattle.rules.specs.declared.Changed.TheVariants as Changed
 use Rattle.levels.specs.declared.Level.{Level}
 use Rattle.levels.specs.Depth.{side_of, sound, set_side, with_side, set}
 use Rattle.levels.proofs.Books.{sound-bids, sound-asks, set-unsound, set-done}
@@ -40,19 +39,19 @@ returns-then-not-sound c =
     (sym (set-unsound (book_of a.depth) a.bid a.price a.size (sym c.sound.ensures ∙ c.if-not-sound.true)), refl)
 
 pub set_side-r-requires : goal.set_side-r-requires
-set_side-r-requires c = sound-bids (book_of c.args.depth) ((let whole_is : sound (book_of c.args.depth) ≡ true = sym c.sound.ensures ∙ c.if-not-sound.false in whole_is))
+set_side-r-requires c = sound-bids (book_of c.args.depth) (sym c.sound.ensures ∙ c.if-not-sound.false)
 
 pub set_side-r-requires-else-bid : goal.set_side-r-requires-else-bid
-set_side-r-requires-else-bid c = sound-asks (book_of c.args.depth) ((let whole_is : sound (book_of c.args.depth) ≡ true = sym c.sound.ensures ∙ c.if-not-sound.false in whole_is))
+set_side-r-requires-else-bid c = sound-asks (book_of c.args.depth) (sym c.sound.ensures ∙ c.if-not-sound.false)
 
 pub returns-then-bid : goal.returns-then-bid
 returns-then-bid c =
     let r = c.set_side-r in
     let a = c.args in
-    rw c.if-bid.true (back a.depth ((let whole_is : sound (book_of c.args.depth) ≡ true = sym c.sound.ensures ∙ c.if-not-sound.false in whole_is)) a.price a.size r.result.side true r.result.answer r.ensures)
+    rw c.if-bid.true (back a.depth (sym c.sound.ensures ∙ c.if-not-sound.false) a.price a.size r.result.side true r.result.answer r.ensures)
 
 pub returns-else-bid : goal.returns-else-bid
 returns-else-bid c =
     let r = c.set_side-r-else-bid in
     let a = c.args in
-    rw c.if-bid.false (back a.depth ((let whole_is : sound (book_of c.args.depth) ≡ true = sym c.sound.ensures ∙ c.if-not-sound.false in whole_is)) a.price a.size r.result.side false r.result.answer r.ensures)
+    rw c.if-bid.false (back a.depth (sym c.sound.ensures ∙ c.if-not-sound.false) a.price a.size r.result.side false r.result.answer r.ensures)

@@ -12,18 +12,18 @@ split-c-requires c = sound-few c.args.bid c.args.side.levels c.args.side.count c
 
 pub trim-count-requires : goal.trim-count-requires
 trim-count-requires c =
-    let s = c.before.before.before in
     let a = c.args in
     let k = c.split-c.result in
-    (side-count a.bid k.prices k.sizes a.side.count ((let sound_is : let a = c.args in let k = c.split-c.result in side_sound a.bid (side_in k.prices k.sizes a.side.count) ≡ true = let s = c.args.side in rw (split-side s.levels _ _ s.count c.split-c.ensures) c.requires in sound_is)), side-falling a.bid k.prices k.sizes a.side.count ((let sound_is : let a = c.args in let k = c.split-c.result in side_sound a.bid (side_in k.prices k.sizes a.side.count) ≡ true = let s = c.args.side in rw (split-side s.levels _ _ s.count c.split-c.ensures) c.requires in sound_is)))
+    let sound_is : side_sound a.bid (side_in k.prices k.sizes a.side.count) ≡ true = rw (split-side a.side.levels _ _ a.side.count c.split-c.ensures) c.requires in
+    (side-count a.bid k.prices k.sizes a.side.count sound_is, side-falling a.bid k.prices k.sizes a.side.count sound_is)
 
 pub join-levels-requires : goal.join-levels-requires
 join-levels-requires c =
-    let s = c.before.before.before.before in
     let a = c.args in
     let k = c.split-c.result in
+    let sound_is : side_sound a.bid (side_in k.prices k.sizes a.side.count) ≡ true = rw (split-side a.side.levels _ _ a.side.count c.split-c.ensures) c.requires in
     side-count a.bid k.prices k.sizes c.trim-count.result
-    (rw (c.trim-count.ensures k.sizes) (trim-sound a.bid (reported a.best) (side_in k.prices k.sizes a.side.count) ((let sound_is : let a = c.args in let k = c.split-c.result in side_sound a.bid (side_in k.prices k.sizes a.side.count) ≡ true = let s = c.args.side in rw (split-side s.levels _ _ s.count c.split-c.ensures) c.requires in sound_is))))
+    (rw (c.trim-count.ensures k.sizes) (trim-sound a.bid (reported a.best) (side_in k.prices k.sizes a.side.count) sound_is))
 
 pub returns : goal.returns
 returns c =

@@ -3,7 +3,7 @@ use mathlib.Core.Path.{refl, ◌∙◌}
 use Prim.Native.Nat.{◌-◌}
 use native.Mathlib.Nat.{not-suc-le-zero}
 use native.Mathlib.Omega.{arith}
-use lib.ListN.{length, length-set}
+use lib.ListN.{length-set}
 use Rattle.levels.specs.declared.Level.{Level}
 use Rattle.levels.specs.Work.{level_in}
 use Rattle.depth.proofs.Splitting.{join_more}
@@ -58,10 +58,10 @@ pub loop-i-preserved : goal.loop-i-preserved
 loop-i-preserved c =
     let a = c.args in
     let l = c.loop-i in
-    let x : Level = level_in a.t1 a.t2 l.i in (
+    let x : Level = level_in a.prices a.sizes l.i in (
       omega arith,
       length-set l.levels (a.count - 1 - l.i) x ∙ l.invariant.1,
-      join_more l.levels a.count a.t1 a.t2 l.i l.invariant.2 (omega arith) (omega arith),
+      join_more l.levels a.count a.prices a.sizes l.i l.invariant.2 (omega arith) (omega arith),
     )
 
 -- src/columns.rt:32:1

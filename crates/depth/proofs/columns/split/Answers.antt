@@ -3,7 +3,7 @@ use mathlib.Core.Path.{refl, ◌∙◌}
 use Prim.Native.Nat.{◌-◌}
 use native.Mathlib.Nat.{not-suc-le-zero}
 use native.Mathlib.Omega.{arith}
-use lib.ListN.{length, get_or, length-set}
+use lib.ListN.{get_or, length-set}
 use Rattle.levels.specs.declared.Level.{Level}
 use Rattle.depth.specs.Value.{blank}
 use Rattle.depth.proofs.Splitting.{split-more}
@@ -56,7 +56,7 @@ loop-i-smaller c = search rules
 -- src/columns.rt:20:5
 pub loop-i-preserved : goal.loop-i-preserved
 loop-i-preserved c =
-    let a = c.args.t1 in
+    let a = c.args.side in
     let l = c.loop-i in
     let x : Level = get_or a.levels (a.count - 1 - l.i) blank in (
       omega arith,

@@ -14,10 +14,10 @@ bounds-side-0 c = search rules
 
 pub returns-then-side-gt0 : goal.returns-then-side-gt0
 returns-then-side-gt0 c =
-    let s = c.args.t1 in
+    let s = c.args.side in
     sym (ap (λ (o : Option Level). value o) (best-some s.count (λ i. get_or s.levels i blank) (omega arith)))
 
 pub returns-else-side-gt0 : goal.returns-else-side-gt0
 returns-else-side-gt0 c =
-    let s = c.args.t1 in
+    let s = c.args.side in
     sym (ap (λ (o : Option Level). value o) (best_none s.count (λ i. get_or s.levels i blank) (omega arith)))

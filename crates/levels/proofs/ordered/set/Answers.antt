@@ -3,7 +3,7 @@ use mathlib.Core.Path.{refl, sym, ◌∙◌}
 use native.Mathlib.Omega.{arith}
 use lib.Ieee.{of_bits}
 use Rattle.levels.proofs.SideLaws.{sound-count, sound-falling}
-use Rattle.levels.proofs.Setting.{Reached, refused-12, refused-13, refused-14, counted, new, nothing, among, gone, again}
+use Rattle.levels.proofs.Setting.{reached, refused-12, refused-13, refused-14, counted, new, nothing, among, gone, again}
 use Rattle.levels.proofs.ordered.set.Goals as goal
 
 pub returns-then-not-price_allowed : goal.returns-then-not-price_allowed
@@ -26,104 +26,53 @@ standing-requires c =
     let a = c.args in
     sound-count a.falling a.prices.now a.sizes.now a.count c.requires
 
-abbrev start : goal.After-standing → goal.Start
-start d = d.before.before.before.before.before.before.before.before
-
 pub remove-requires : goal.remove-requires
 remove-requires c =
-    let r = (let reached_is : Reached (start c.before.before.before.before.before.before).args.falling (start c.before.before.before.before.before.before).args.prices.now (start c.before.before.before.before.before.before).args.sizes.now (start c.before.before.before.before.before.before).args.count (start c.before.before.before.before.before.before).args.price c.place-at.result (start c.before.before.before.before.before.before).args.size c.standing.result = record {
-      sound = (start c.before.before.before.before.before.before).requires;
-      price = sym c.price_allowed.ensures ∙ c.if-not-price_allowed.false;
-      size = sym c.size_allowed.ensures ∙ c.if-not-price_allowed.false;
-      place = c.place-at.ensures;
-      tested = c.standing.ensures;
-    } in reached_is) in
+    let r = reached c.args.falling c.args.prices.now c.args.sizes.now c.args.count c.args.price c.place-at.result c.args.size c.standing.result c.requires (sym c.price_allowed.ensures ∙ c.if-not-price_allowed.false) (sym c.size_allowed.ensures ∙ c.if-not-size_allowed.false) c.place-at.ensures c.standing.ensures in
     omega (arith, counted r, among r c.if-standing.true)
 
 pub overflow_sub-result : goal.overflow_sub-result
 overflow_sub-result c =
     omega (
       arith,
-      among ((let reached_is : Reached (start c.before.before.before.before.before.before).args.falling (start c.before.before.before.before.before.before).args.prices.now (start c.before.before.before.before.before.before).args.sizes.now (start c.before.before.before.before.before.before).args.count (start c.before.before.before.before.before.before).args.price c.place-at.result (start c.before.before.before.before.before.before).args.size c.standing.result = record {
-        sound = (start c.before.before.before.before.before.before).requires;
-        price = sym c.price_allowed.ensures ∙ c.if-not-price_allowed.false;
-        size = sym c.size_allowed.ensures ∙ c.if-not-price_allowed.false;
-        place = c.place-at.ensures;
-        tested = c.standing.ensures;
-      } in reached_is)) c.if-standing.true,
+      among (reached c.args.falling c.args.prices.now c.args.sizes.now c.args.count c.args.price c.place-at.result c.args.size c.standing.result c.requires (sym c.price_allowed.ensures ∙ c.if-not-price_allowed.false) (sym c.size_allowed.ensures ∙ c.if-not-size_allowed.false) c.place-at.ensures c.standing.ensures) c.if-standing.true,
     )
 
 pub put-requires : goal.put-requires
 put-requires c =
-    let r = (let reached_is : Reached (start c.before.before.before.before.before.before).args.falling (start c.before.before.before.before.before.before).args.prices.now (start c.before.before.before.before.before.before).args.sizes.now (start c.before.before.before.before.before.before).args.count (start c.before.before.before.before.before.before).args.price c.place-at.result (start c.before.before.before.before.before.before).args.size c.standing.result = record {
-      sound = (start c.before.before.before.before.before.before).requires;
-      price = sym c.price_allowed.ensures ∙ c.if-not-price_allowed.false;
-      size = sym c.size_allowed.ensures ∙ c.if-not-price_allowed.false;
-      place = c.place-at.ensures;
-      tested = c.standing.ensures;
-    } in reached_is) in
+    let r = reached c.args.falling c.args.prices.now c.args.sizes.now c.args.count c.args.price c.place-at.result c.args.size c.standing.result c.requires (sym c.price_allowed.ensures ∙ c.if-not-price_allowed.false) (sym c.size_allowed.ensures ∙ c.if-not-size_allowed.false) c.place-at.ensures c.standing.ensures in
     omega (arith, counted r, among r c.if-standing.true)
 
 pub returns-then-size : goal.returns-then-size
 unfolding of_bits
 returns-then-size c = (
-  gone ((let reached_is : Reached (start c.before.before.before.before.before.before).args.falling (start c.before.before.before.before.before.before).args.prices.now (start c.before.before.before.before.before.before).args.sizes.now (start c.before.before.before.before.before.before).args.count (start c.before.before.before.before.before.before).args.price c.place-at.result (start c.before.before.before.before.before.before).args.size c.standing.result = record {
-    sound = (start c.before.before.before.before.before.before).requires;
-    price = sym c.price_allowed.ensures ∙ c.if-not-price_allowed.false;
-    size = sym c.size_allowed.ensures ∙ c.if-not-price_allowed.false;
-    place = c.place-at.ensures;
-    tested = c.standing.ensures;
-  } in reached_is)) c.if-standing.true c.if-size.true c.remove.ensures,
+  gone (reached c.args.falling c.args.prices.now c.args.sizes.now c.args.count c.args.price c.place-at.result c.args.size c.standing.result c.requires (sym c.price_allowed.ensures ∙ c.if-not-price_allowed.false) (sym c.size_allowed.ensures ∙ c.if-not-size_allowed.false) c.place-at.ensures c.standing.ensures) c.if-standing.true c.if-size.true c.remove.ensures,
   tt,
 )
 
 pub returns-else-size : goal.returns-else-size
 unfolding of_bits
 returns-else-size c =
-    let r = (let reached_is : Reached (start c.before.before.before.before.before.before).args.falling (start c.before.before.before.before.before.before).args.prices.now (start c.before.before.before.before.before.before).args.sizes.now (start c.before.before.before.before.before.before).args.count (start c.before.before.before.before.before.before).args.price c.place-at.result (start c.before.before.before.before.before.before).args.size c.standing.result = record {
-      sound = (start c.before.before.before.before.before.before).requires;
-      price = sym c.price_allowed.ensures ∙ c.if-not-price_allowed.false;
-      size = sym c.size_allowed.ensures ∙ c.if-not-price_allowed.false;
-      place = c.place-at.ensures;
-      tested = c.standing.ensures;
-    } in reached_is) in
+    let r = reached c.args.falling c.args.prices.now c.args.sizes.now c.args.count c.args.price c.place-at.result c.args.size c.standing.result c.requires (sym c.price_allowed.ensures ∙ c.if-not-price_allowed.false) (sym c.size_allowed.ensures ∙ c.if-not-size_allowed.false) c.place-at.ensures c.standing.ensures in
     (again r c.if-standing.true c.if-size.false (omega (arith, counted r, among r c.if-standing.true)) c.put.ensures, tt)
 
 pub returns-then-size-2 : goal.returns-then-size-2
 unfolding of_bits
 returns-then-size-2 c = (
-  nothing ((let reached_is : Reached (start c.before.before.before.before.before.before).args.falling (start c.before.before.before.before.before.before).args.prices.now (start c.before.before.before.before.before.before).args.sizes.now (start c.before.before.before.before.before.before).args.count (start c.before.before.before.before.before.before).args.price c.place-at.result (start c.before.before.before.before.before.before).args.size c.standing.result = record {
-    sound = (start c.before.before.before.before.before.before).requires;
-    price = sym c.price_allowed.ensures ∙ c.if-not-price_allowed.false;
-    size = sym c.size_allowed.ensures ∙ c.if-not-price_allowed.false;
-    place = c.place-at.ensures;
-    tested = c.standing.ensures;
-  } in reached_is)) c.if-standing.false c.if-size-2.true,
+  nothing (reached c.args.falling c.args.prices.now c.args.sizes.now c.args.count c.args.price c.place-at.result c.args.size c.standing.result c.requires (sym c.price_allowed.ensures ∙ c.if-not-price_allowed.false) (sym c.size_allowed.ensures ∙ c.if-not-size_allowed.false) c.place-at.ensures c.standing.ensures) c.if-standing.false c.if-size-2.true,
   tt,
 )
 
 pub returns-then-count-lt512 : goal.returns-then-count-lt512
 unfolding of_bits
 returns-then-count-lt512 c = (
-  new ((let reached_is : Reached (start c.before.before.before.before.before.before).args.falling (start c.before.before.before.before.before.before).args.prices.now (start c.before.before.before.before.before.before).args.sizes.now (start c.before.before.before.before.before.before).args.count (start c.before.before.before.before.before.before).args.price c.place-at.result (start c.before.before.before.before.before.before).args.size c.standing.result = record {
-    sound = (start c.before.before.before.before.before.before).requires;
-    price = sym c.price_allowed.ensures ∙ c.if-not-price_allowed.false;
-    size = sym c.size_allowed.ensures ∙ c.if-not-price_allowed.false;
-    place = c.place-at.ensures;
-    tested = c.standing.ensures;
-  } in reached_is)) c.if-standing.false c.if-size-2.false c.if-count-lt512.true c.insert.ensures,
+  new (reached c.args.falling c.args.prices.now c.args.sizes.now c.args.count c.args.price c.place-at.result c.args.size c.standing.result c.requires (sym c.price_allowed.ensures ∙ c.if-not-price_allowed.false) (sym c.size_allowed.ensures ∙ c.if-not-size_allowed.false) c.place-at.ensures c.standing.ensures) c.if-standing.false c.if-size-2.false (omega arith) c.insert.ensures,
   tt,
 )
 
 pub returns-else-count-lt512 : goal.returns-else-count-lt512
 unfolding of_bits
 returns-else-count-lt512 c = (
-  refused-14 ((let reached_is : Reached (start c.before.before.before.before.before.before).args.falling (start c.before.before.before.before.before.before).args.prices.now (start c.before.before.before.before.before.before).args.sizes.now (start c.before.before.before.before.before.before).args.count (start c.before.before.before.before.before.before).args.price c.place-at.result (start c.before.before.before.before.before.before).args.size c.standing.result = record {
-    sound = (start c.before.before.before.before.before.before).requires;
-    price = sym c.price_allowed.ensures ∙ c.if-not-price_allowed.false;
-    size = sym c.size_allowed.ensures ∙ c.if-not-price_allowed.false;
-    place = c.place-at.ensures;
-    tested = c.standing.ensures;
-  } in reached_is)) c.if-standing.false c.if-size-2.false c.if-count-lt512.false,
+  refused-14 (reached c.args.falling c.args.prices.now c.args.sizes.now c.args.count c.args.price c.place-at.result c.args.size c.standing.result c.requires (sym c.price_allowed.ensures ∙ c.if-not-price_allowed.false) (sym c.size_allowed.ensures ∙ c.if-not-size_allowed.false) c.place-at.ensures c.standing.ensures) c.if-standing.false c.if-size-2.false (omega arith),
   (refl, refl),
 )

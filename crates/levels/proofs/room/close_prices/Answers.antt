@@ -1,7 +1,7 @@
 use mathlib.Core.Path.{◌≡◌, refl}
-use Prim.Native.Nat.{◌+◌, ◌-◌}
+use Prim.Native.Nat.{◌+◌}
 use native.Mathlib.Omega.{arith}
-use lib.ListN.{length, length-set}
+use lib.ListN.{length-set}
 use Rattle.levels.proofs.Shifts.{closing-none, closing-more}
 use Rattle.levels.proofs.room.close_prices.Goals as goal
 

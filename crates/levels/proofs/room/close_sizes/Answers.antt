@@ -1,8 +1,8 @@
 use mathlib.Core.Path.{◌≡◌, refl}
-use Prim.Native.Nat.{◌+◌, ◌-◌}
+use Prim.Native.Nat.{◌+◌}
 use native.Mathlib.Omega.{arith}
 use lib.Ieee.{nan}
-use lib.ListN.{length, length-set}
+use lib.ListN.{length-set}
 use Rattle.levels.proofs.Shifts.{closing-none, closing-more}
 use Rattle.levels.proofs.room.close_sizes.Goals as goal
 

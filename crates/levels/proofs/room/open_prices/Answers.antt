@@ -1,7 +1,6 @@
 use mathlib.Core.Path.{◌≡◌, refl}
-use Prim.Native.Nat.{◌-◌}
 use native.Mathlib.Omega.{arith}
-use lib.ListN.{length, length-set}
+use lib.ListN.{length-set}
 use Rattle.levels.proofs.Shifts.{opened-none, opened-more}
 use Rattle.levels.proofs.room.open_prices.Goals as goal
 

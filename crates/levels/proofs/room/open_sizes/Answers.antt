@@ -1,8 +1,7 @@
 use mathlib.Core.Path.{◌≡◌, refl}
-use Prim.Native.Nat.{◌-◌}
 use native.Mathlib.Omega.{arith}
 use lib.Ieee.{nan}
-use lib.ListN.{length, length-set}
+use lib.ListN.{length-set}
 use Rattle.levels.proofs.Shifts.{opened-none, opened-more}
 use Rattle.levels.proofs.room.open_sizes.Goals as goal
 

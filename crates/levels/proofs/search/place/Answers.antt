@@ -1,5 +1,4 @@
 use mathlib.Core.Path.{◌∙◌, sym}
-use Prim.Native.Nat.{◌-◌}
 use native.Mathlib.Omega.{arith}
 use Rattle.levels.proofs.Halving.{between-all, between-up, between-down, between-met}
 use Rattle.levels.proofs.search.place.Goals as goal
