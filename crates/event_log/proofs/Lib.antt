@@ -3,4 +3,3 @@ pub mod Reading
 pub mod Changes
 pub mod Search
 pub mod Theorems
-pub mod Claims

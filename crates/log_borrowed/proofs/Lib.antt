@@ -1,3 +1,1 @@
-mod Passing
-mod Lending
 pub mod ViewLaws

@@ -24,7 +24,7 @@ use Rattle.prints.specs.declared.Used.{Used}
 use Rattle.prints.specs.declared.Found.{Found}
 use Rattle.prints.specs.Area.{key_row, count_row, prints_of, Fits, Free, KeyStands, FoundIn}
 use Rattle.prints.specs.Steps.{is_gap, KeyTouched, PairCounted}
-use Rattle.prints.proofs.Tables.{prints-eq, keys-table, counts-table, key-stands, pair-stands, delivered-at, delivered-none, has_key, has-pair}
+use Rattle.prints.proofs.Tables.{prints-eq, keys-table, counts-table, key-stands, pair-stands, delivered-at, delivered-none, has-key, has-pair}
 
 -- ---- the key is touched
 module _ (c : ℕ) (u : Runs) (k : Key) (t : ℕ) (w : List ℕ) (s : Table false 0 u w) (b : size u ≤ c) (n : 4 * c ≤ length w) where
@@ -167,7 +167,7 @@ module _ (three : Bool) (b : ℕ) (u : Runs) (w v : List ℕ) (same : (k : ℕ) 
 module _ (c : ℕ) (w : List ℕ) (u : Used) (k : Key) (x : ℕ) (n : Found) (f : Fits c w u) (s : TablesSound (prints_of c w u)) (h : FoundIn c w u k x n)
     (free : Free c w u k x) where
   key-free : is_gap n.key ≡ true → size u.keys < c
-  key-free e = free.for_key (has_key c w u f s k n.key h.key ∙ ap not e)
+  key-free e = free.for_key (has-key c w u f s k n.key h.key ∙ ap not e)
 
   pair-free : is_gap n.pair ≡ true → 4 * (c + size u.counts) + 3 < length w
   pair-free e = free.for_pair (has-pair c w u f s k x n.pair h.pair ∙ ap not e)

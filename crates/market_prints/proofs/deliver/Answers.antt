@@ -27,9 +27,11 @@ applied-applied-requires c =
 
 pub deliver-place-requires : goal.deliver-place-requires
 deliver-place-requires c =
+    let g =
     let r =
     deliver-ready c.args.conn c.args.key c.args.message c.args.t c.requires c.no_row.ensures c.if-no_row.false c.delivered-delivered.ensures (omega (arith, c.if-no_row.false)) in
-    ((r.0, c.find-found.ensures), r.1)
+    ((r.0, c.find-found.ensures), r.1) in
+    record { tabled = g.0; s_value = g.1.0; s_bound = g.1.1 }
 
 pub overflow_add-delivered : goal.overflow_add-delivered
 overflow_add-delivered c = let h = c.if-no_row.false in omega arith

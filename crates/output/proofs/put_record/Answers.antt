@@ -38,4 +38,4 @@ shape_of-out c = search rules
 pub returns : goal.returns
 returns c =
     let a = c.args in
-    (refl, back-over (7 * a.n) 7 c.put7.new.row.0 (record_words a.r) a.out.now (rw (← c.kind_word-word.ensures) c.put7.ensures) refl)
+    (refl, back-over (7 * a.n) 7 c.put7.new.row (record_words a.r) a.out.now (rw (← c.kind_word-word.ensures) c.put7.ensures) refl)

@@ -7,4 +7,6 @@ remove-counts-requires c = counts-table _ _ _ c.requires.fits c.requires.tables_
 
 pub returns : goal.returns
 returns c =
-    removed-counts _ _ _ c.requires.fits _ _ c.remove-counts.auto.t _ c.remove-counts.ensures
+    let g =
+    removed-counts _ _ _ c.requires.fits _ _ c.remove-counts.auto.t _ c.remove-counts.ensures in
+    record { result_after = g.0; fits_2 = g.1 }

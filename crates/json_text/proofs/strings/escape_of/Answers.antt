@@ -31,7 +31,7 @@ pub returns-in_default : goal.returns-in_default
 unfolding escape_of
 returns-in_default c =
     let b = c.args.b in
-    let r = c.in_default.rest in
+    let r = c.in_default.in_default-own.rest in
     simp (
       ne_eqb b 0x22 (λ e. r.0.0.0.0.0.1 (inl e)),
       ne_eqb b 0x2F (λ e. r.0.0.0.0.0.1 (inr (inl e))),

@@ -5,7 +5,10 @@ use borrow.Author.Rules.{rules}
 use Rattle.market.proofs.changes.reset.Goals as goal
 
 pub clear_log-requires : goal.clear_log-requires
-clear_log-requires c = clear-ready _ c.requires
+clear_log-requires c =
+    let g =
+    clear-ready _ c.requires in
+    record { sized = g.0; s_bound = g.1 }
 
 pub reset-requires : goal.reset-requires
 reset-requires c = lined-sound _ (clear_kept c.requires c.clear_log.ensures)

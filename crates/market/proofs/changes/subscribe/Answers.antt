@@ -22,7 +22,9 @@ remove_counts-requires c =
 
 pub subscribe-requires : goal.subscribe-requires
 subscribe-requires c =
-    subscribe-ready _ _ c.find-i.ensures c.count-lines.ensures c.limits-limits.ensures _ c.requires c.if-full.false c.remove_counts.ensures
+    let g =
+    subscribe-ready _ _ c.find-i.ensures c.count-lines.ensures c.limits-limits.ensures _ c.requires c.if-full.false c.remove_counts.ensures in
+    record { sound = g.0; s_value = g.1 }
 
 pub returns : goal.returns
 returns c =

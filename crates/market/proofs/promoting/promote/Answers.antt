@@ -19,7 +19,10 @@ pub source-best-requires : goal.source-best-requires
 source-best-requires c = search rules
 
 pub clear_log-requires : goal.clear_log-requires
-clear_log-requires c = clear-ready _ c.requires.sound
+clear_log-requires c =
+    let g =
+    clear-ready _ c.requires.sound in
+    record { sized = g.0; s_bound = g.1 }
 
 pub enum_told-1 : goal.enum_told-1
 enum_told-1 c = search rules

@@ -17,7 +17,9 @@ returns-then-all_fresh c =
 
 pub keep_counts-counts-requires : goal.keep_counts-counts-requires
 keep_counts-counts-requires c =
-    kept-ready _ _ _ c.requires.fits c.requires.tables_sound _ c.join.auto.area c.join.ensures
+    let g =
+    kept-ready _ _ _ c.requires.fits c.requires.tables_sound _ c.join.auto.area c.join.ensures in
+    record { n_le_c = g.0; tables_sound = g.1 }
 
 pub keep_keys-keys-requires : goal.keep_keys-keys-requires
 keep_keys-keys-requires c =
@@ -25,5 +27,7 @@ keep_keys-keys-requires c =
 
 pub returns : goal.returns
 returns c =
+    let g =
     expire-done _ _ _ c.requires.fits c.requires.tables_sound _ c.join.auto.area c.join.ensures _ _ _ _ _ c.keep_counts-counts.ensures c.keep_keys-keys.ensures
-    c.keep_counts-counts.auto.area c.keep_keys-keys.auto.area
+    c.keep_counts-counts.auto.area c.keep_keys-keys.auto.area in
+    record { result_after = g.0; fits_2 = g.1 }

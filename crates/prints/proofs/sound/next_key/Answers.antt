@@ -9,4 +9,4 @@ returns-then-same c = record { within = omega arith; hit = sym c.same.ensures �
 pub returns : goal.returns
 returns c =
     let s = c.requires in
-    lower-past _ _ _ _ _ _ _ (record { within = s.0.1; left = s.1; right = λ h. absurd (omega arith) }) (omega arith)
+    lower-past _ _ _ _ _ _ _ (record { within = s.n_in_bounds.1; left = s.y_value; right = λ h. absurd (omega arith) }) (omega arith)

@@ -9,7 +9,7 @@ pub next_key-requires : goal.next_key-requires
 unfolding row_at
 next_key-requires c =
     let s = c.requires in
-    record { n_in_bounds = (omega (arith, s.0.0.lies.inside), s.1.1.old.within); y_value = past-below _ _ _ _ _ _ s.1.1.old s.1.0 }
+    record { n_in_bounds = (omega (arith, s.table.0.lies.inside), s.rises.1.old.within); y_value = past-below _ _ _ _ _ _ s.rises.1.old s.rises.0 }
 
 pub overflow_add-result : goal.overflow_add-result
 overflow_add-result c = let h = (found c.next_key.ensures c.in-At.is).within in search rules
@@ -18,7 +18,7 @@ pub next_key-requires-in-Gap : goal.next_key-requires-in-Gap
 unfolding row_at
 next_key-requires-in-Gap c =
     let s = c.requires in
-    record { n_in_bounds = (omega (arith, s.0.0.lies.inside), s.1.1.new.within); y_value = past-below _ _ _ _ _ _ s.1.1.new s.1.0 }
+    record { n_in_bounds = (omega (arith, s.table.0.lies.inside), s.rises.1.new.within); y_value = past-below _ _ _ _ _ _ s.rises.1.new s.rises.0 }
 
 pub overflow_add-result-in-At-next_key : goal.overflow_add-result-in-At-next_key
 overflow_add-result-in-At-next_key c = let h = (found c.next_key-in-Gap.ensures c.in-At-next_key.is).within in search rules
@@ -27,13 +27,13 @@ pub returns-in-At : goal.returns-in-At
 unfolding row_at
 returns-in-At c =
     let s = c.requires in
-    owned-old _ _ _ _ _ s.1.1 s.0.0 s.1.0 _ (found c.next_key.ensures c.in-At.is)
+    owned-old _ _ _ _ _ s.rises.1 s.table.0 s.rises.0 _ (found c.next_key.ensures c.in-At.is)
 
 pub returns-in-At-next_key : goal.returns-in-At-next_key
 unfolding row_at
 returns-in-At-next_key c =
     let s = c.requires in
-    owned-new _ _ _ _ _ s.1.1 s.0.0 s.1.0 _ _
+    owned-new _ _ _ _ _ s.rises.1 s.table.0 s.rises.0 _ _
     (missed c.next_key.ensures c.in-Gap.is)
     (found c.next_key-in-Gap.ensures c.in-At-next_key.is)
 
@@ -41,6 +41,6 @@ pub returns-in-Gap-next_key : goal.returns-in-Gap-next_key
 unfolding row_at
 returns-in-Gap-next_key c =
     let s = c.requires in
-    owned-not _ _ _ _ _ s.1.1 s.0.0 s.1.0 _ _
+    owned-not _ _ _ _ _ s.rises.1 s.table.0 s.rises.0 _ _
     (missed c.next_key.ensures c.in-Gap.is)
     (missed c.next_key-in-Gap.ensures c.in-Gap-next_key.is)

@@ -41,19 +41,19 @@ pub bounds-s-9-2 : goal.bounds-s-9-2
 bounds-s-9-2 c =
     let l = c.loop-j in
     let p = c.put_waiting in
-    opening-count _ _ c.requires _ _ _ l.invariant (omega arith) p.new.area.0 p.auto.area
+    opening-count _ _ c.requires _ _ _ l.invariant (omega arith) p.new.area p.auto.area
 
 pub shape_of-s : goal.shape_of-s
 shape_of-s c =
     let l = c.loop-j in
     let p = c.put_waiting in
-    opening-size _ _ c.requires _ _ _ l.invariant (omega arith) p.new.area.0 p.auto.area
+    opening-size _ _ c.requires _ _ _ l.invariant (omega arith) p.new.area p.auto.area
 
 pub returns : goal.returns
 returns c =
     let l = c.loop-j in
     let p = c.put_waiting in
-    opening-done _ _ c.requires _ _ _ l.invariant (omega arith) p.new.area.0 p.auto.area c.args.conn c.args.limit c.args.t p.ensures
+    opening-done _ _ c.requires _ _ _ l.invariant (omega arith) p.new.area p.auto.area c.args.conn c.args.limit c.args.t p.ensures
 
 pub overflow_sub-j : goal.overflow_sub-j
 overflow_sub-j c = omega arith

@@ -10,5 +10,5 @@ apply-requires c =
 
 pub returns : goal.returns
 returns c =
-    rows-done c.tables_start-a.ensures c.lines_start-e.ensures c.used-old.ensures c.apply.new.area.0
+    rows-done c.tables_start-a.ensures c.lines_start-e.ensures c.used-old.ensures c.apply.new.area
     (apply_print c.args.key c.args.n) c.requires.0 c.apply.auto.area c.apply.ensures

@@ -4,18 +4,20 @@ use Rattle.store.proofs.tables.deliver.Goals as goal
 
 pub deliver-new-requires : goal.deliver-new-requires
 deliver-new-requires c =
-    deliver-ready c.requires.tabled.0 (tables-part _ c.tables_start-a.ensures c.lines_start-e.ensures) c.used-old.ensures c.requires.tabled.1 c.requires.s_value c.requires.s_bound
+    let g =
+    deliver-ready c.requires.tabled.0 (tables-part _ c.tables_start-a.ensures c.lines_start-e.ensures) c.used-old.ensures c.requires.tabled.1 c.requires.s_value c.requires.s_bound in
+    record { fits = g.0; tables_sound = g.1.0; found_in = g.1.1.0; free = g.1.1.1.0; used_bound = g.1.1.1.1 }
 
 pub put_used-requires : goal.put_used-requires
 put_used-requires c =
-    header-kept c.tables_start-a.ensures c.lines_start-e.ensures c.used-old.ensures c.deliver-new.new.area.0
+    header-kept c.tables_start-a.ensures c.lines_start-e.ensures c.used-old.ensures c.deliver-new.new.area
     (counted c.args.key c.args.conn c.args.t) c.requires.tabled.0 c.deliver-new.auto.area
 
 pub returns : goal.returns
 returns c =
     let new = c.deliver-new.result in record {
-      moved = tables-done c.tables_start-a.ensures c.lines_start-e.ensures c.used-old.ensures c.deliver-new.new.area.0
+      moved = tables-done c.tables_start-a.ensures c.lines_start-e.ensures c.used-old.ensures c.deliver-new.new.area
           (counted c.args.key c.args.conn c.args.t) c.requires.tabled.0 c.deliver-new.auto.area new.used c.deliver-new.ensures.fits_2.0 c.deliver-new.ensures.used_after c.put_used.ensures;
-      key_found = key-done c.tables_start-a.ensures c.lines_start-e.ensures c.used-old.ensures c.deliver-new.new.area.0
+      key_found = key-done c.tables_start-a.ensures c.lines_start-e.ensures c.used-old.ensures c.deliver-new.new.area
           (counted c.args.key c.args.conn c.args.t) c.requires.tabled.0 c.deliver-new.auto.area new.used c.args.key new.key c.deliver-new.ensures.fits_2.1 c.put_used.ensures;
     }
