@@ -1,21 +1,19 @@
 -- Laws of text that is written into a buffer.
 use mathlib.Core.Path.{◌≡◌, refl, sym, ap, subst, ◌∙◌}
-use mathlib.Core.List.{List, [], ◌∷◌, ◌++◌, append-nil}
-use mathlib.Core.Logic.{⊎_elim}
-use Prim.Native.Nat.{ℕ, zero, suc, ◌+◌, ◌-◌, ◌*◌, ◌/◌, ◌%◌, ◌^◌, ◌≤◌, ◌<◌}
-use native.Mathlib.Nat.{pow-suc, one-le-pow, mod-eq_of_lt, pow-le-pow_right}
+use mathlib.Core.List.{List, [], ◌∷◌, ◌++◌}
+use Prim.Native.Nat.{ℕ, zero, suc, ◌+◌, ◌-◌, ◌*◌, ◌^◌, ◌≤◌, ◌<◌}
 use native.Mathlib.Numerals.{add-one}
 use native.Mathlib.Omega.{arith}
 use borrow.Author.Tests.{lt-ltb, le-ltb}
 use lib.ListN.{length, take, drop, set, length-append, length-drop, drop_of_length-le, take-append-drop, get_or}
-use lib.Seq.{length-take-le, take_all, take-length, drop-length, set_split, drop-drop}
+use lib.Seq.{length-take-le, take_all, drop-length, set_split, drop-drop}
 use borrow.Rule.Slice.PartMut.{put_mid}
-use Rattle.std.specs.Fmt.{decimal}
+use Rattle.std.specs.Fmt.{decimal as std_decimal}
 use Rattle.std.proofs.lemmas.Fmt.{AppendsLastDigit, decimal_from_appends, length-decimal-le}
 use Rattle.words.specs.Words.{part}
 use Rattle.output.specs.Output.{over_at}
 use Rattle.output.proofs.OverLaws.{over-twice}
-use Rattle.listing.specs.Text.{Wrote, digits_up_to, decimal as Text.decimal, number, kind_text, record_text, records_text, all_records, report_kind, report_text, report, records_of, reports_text, all_reports}
+use Rattle.listing.specs.Text.{Wrote, digits_up_to, decimal, number, kind_text, record_text, records_text, all_records, report_kind, report_text, report, records_of, reports_text, all_reports}
 
 -- ---- bytes copied to a place, one byte stored, one text behind the other
 
@@ -64,16 +62,16 @@ from-front =
       more = λ k n h. rw (le-ltb n 10 h);
     }
 
-pub short : (x : ℕ) → x < 2 ^ 64 → length (decimal x) ≤ 20
+pub short : (x : ℕ) → x < 2 ^ 64 → length (std_decimal x) ≤ 20
 short x h = length-decimal-le 20 x (omega arith) (omega arith) h
 
-pub as-decimal : (x : ℕ) → x < 2 ^ 64 → decimal x ≡ Text.decimal x
+pub as-decimal : (x : ℕ) → x < 2 ^ 64 → std_decimal x ≡ decimal x
 as-decimal x h = sym (decimal_from_appends digits_up_to from-front 20 x h (short x h))
 
-pub number-done : (n m x end : ℕ) (ds u v : List ℕ) → ds ≡ decimal x → x < 2 ^ 64 → n + 21 ≤ length u → length v ≡ length u → Wrote n ds u v m
+pub number-done : (n m x end : ℕ) (ds u v : List ℕ) → ds ≡ std_decimal x → x < 2 ^ 64 → n + 21 ≤ length u → length v ≡ length u → Wrote n ds u v m
     → (Wrote n (number x end) u (set v m end) (m + 1)) × (m + 1 ≤ n + 21)
 number-done n m x end ds u v is size room kept w =
-    let e : ds ≡ Text.decimal x = is ∙ as-decimal x size in
+    let e : ds ≡ decimal x = is ∙ as-decimal x size in
     let l : length ds ≤ 20 = rw is (short x size) in
     let p = w.place in (
       behind-it (omega arith) (subst (λ (l : List ℕ). Wrote n l u v m) e w) (stored m end v (omega arith)),

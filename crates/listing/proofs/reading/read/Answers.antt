@@ -1,5 +1,4 @@
 use lib.ListN.{get_or}
-use borrow.Author.Rules.{rules}
 use borrow.Author.Tests.{lt-ltb, le-ltb, eq-eqb, ne_eqb}
 use Rattle.listing.specs.Record.{record_of}
 use Rattle.listing.proofs.reading.read.Goals as goal
@@ -7,15 +6,6 @@ use Rattle.listing.proofs.reading.read.Goals as goal
 pub returns-then-b-lt44 : goal.returns-then-b-lt44
 unfolding record_of
 returns-then-b-lt44 c = rw (lt-ltb _ _ c.if-b-lt44.true)
-
-pub bounds-b-0 : goal.bounds-b-0
-bounds-b-0 c = search rules
-
-pub bounds-b-1 : goal.bounds-b-1
-bounds-b-1 c = search rules
-
-pub call_of-requires : goal.call_of-requires
-call_of-requires c = search rules
 
 pub returns-then-b-eq71 : goal.returns-then-b-eq71
 unfolding record_of

@@ -1,7 +1,6 @@
 use Prim.Native.Nat.{◌-◌}
 use native.Mathlib.Omega.{arith}
 use Rattle.listing.proofs.WriteLaws.{answer-done}
-use borrow.Author.Rules.{rules}
 use Rattle.listing.proofs.writing.put_answer.Goals as goal
 
 pub returns : goal.returns

@@ -1,5 +1,4 @@
 use native.Mathlib.Omega.{arith}
-use borrow.Author.Rules.{rules}
 use Rattle.listing.proofs.WriteLaws.{fits}
 use Rattle.listing.proofs.writing.put_changed.Goals as goal
 

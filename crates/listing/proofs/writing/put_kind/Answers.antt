@@ -1,5 +1,4 @@
 use native.Mathlib.Omega.{arith}
-use borrow.Author.Rules.{rules}
 use Rattle.listing.proofs.WriteLaws.{print-kind}
 use Rattle.listing.proofs.writing.put_kind.Goals as goal
 

@@ -1,9 +1,8 @@
 use mathlib.Core.Path.{◌≡◌, refl, subst, ◌∙◌}
-use Prim.Native.Nat.{ℕ, ◌-◌, ◌/◌}
+use Prim.Native.Nat.{ℕ, ◌/◌}
 use native.Mathlib.Omega.{arith}
 use lib.ListN.{length}
 use Rattle.listing.proofs.WriteLaws.{nothing, records-more}
-use borrow.Author.Rules.{rules}
 use Rattle.listing.specs.Text.{Wrote, records_text}
 use Rattle.listing.proofs.writing.put_records.Goals as goal
 

@@ -1,5 +1,4 @@
 use native.Mathlib.Omega.{arith}
-use borrow.Author.Rules.{rules}
 use Rattle.listing.proofs.WriteLaws.{behind-it}
 use Rattle.listing.proofs.writing.put_refused.Goals as goal
 

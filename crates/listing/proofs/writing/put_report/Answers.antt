@@ -1,7 +1,6 @@
 use native.Mathlib.Omega.{arith}
 use Rattle.listing.specs.Text.{report_text}
 use Rattle.listing.proofs.WriteLaws.{behind-it}
-use borrow.Author.Rules.{rules}
 use Rattle.listing.proofs.writing.put_report.Goals as goal
 
 pub returns : goal.returns

@@ -1,5 +1,4 @@
 use native.Mathlib.Omega.{arith}
-use borrow.Author.Rules.{rules}
 use Rattle.listing.proofs.WriteLaws.{failed-kind}
 use Rattle.listing.proofs.writing.put_report_kind.Goals as goal
 

@@ -1,8 +1,7 @@
 use mathlib.Core.Path.{◌≡◌, refl, subst, ◌∙◌}
-use Prim.Native.Nat.{ℕ, ◌-◌, ◌/◌}
+use Prim.Native.Nat.{ℕ, ◌/◌}
 use native.Mathlib.Omega.{arith}
 use lib.ListN.{length}
-use borrow.Author.Rules.{rules}
 use Rattle.listing.specs.Text.{Wrote, records_of, reports_text}
 use Rattle.listing.proofs.WriteLaws.{nothing, reports-more, place-more}
 use Rattle.listing.proofs.writing.put_reports.Goals as goal

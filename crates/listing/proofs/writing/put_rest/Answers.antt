@@ -1,6 +1,5 @@
 use native.Mathlib.Omega.{arith}
 use Rattle.listing.proofs.WriteLaws.{behind-it}
-use borrow.Author.Rules.{rules}
 use Rattle.listing.proofs.writing.put_rest.Goals as goal
 
 pub returns : goal.returns

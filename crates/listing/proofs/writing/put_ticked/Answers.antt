@@ -1,5 +1,4 @@
 use native.Mathlib.Omega.{arith}
-use borrow.Author.Rules.{rules}
 use Rattle.listing.proofs.WriteLaws.{fits, ticked-done}
 use Rattle.listing.proofs.writing.put_ticked.Goals as goal
 

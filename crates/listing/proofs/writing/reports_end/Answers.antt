@@ -1,7 +1,6 @@
 use Prim.Native.Nat.{◌*◌}
 use native.Mathlib.Omega.{arith}
 use lib.ListN.{length}
-use borrow.Author.Rules.{rules}
 use Rattle.listing.proofs.WriteLaws.{all-taken}
 use Rattle.listing.proofs.writing.reports_end.Goals as goal
 
