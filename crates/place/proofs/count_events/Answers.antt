@@ -1,9 +1,9 @@
-use mathlib.Core.Logic.{⊎_elim}
 use Prim.Native.Nat.{◌-◌}
 use native.Mathlib.Omega.{arith}
 use Rattle.rules.specs.Lines.{events}
 use Rattle.place.proofs.Items.{events-here, events-over, events-end, events-fit}
 use Rattle.place.proofs.count_events.Goals as goal
+use Rattle.place.proofs.count_events.Goals.{then-items-i-eq-EVENT, else-items-i-eq-EVENT}
 
 pub loop-i-init : goal.loop-i-init
 loop-i-init c = (omega arith, omega arith)
@@ -20,10 +20,10 @@ pub loop-i-preserved : goal.loop-i-preserved
 loop-i-preserved c =
     let w = c.args.items.now in
     let n = c.args.n in
-    ⊎_elim
-    (λ e. let q = events-here w n c.loop-i.i (omega arith) e.0.taken in (omega arith, omega arith))
-    (λ e. let q = events-over w n c.loop-i.i (omega arith) e.0.left in (omega arith, omega arith))
-    c.if-items-i-eq-EVENT.branch
+    elim c.if-items-i-eq-EVENT.branch [
+      | then-items-i-eq-EVENT e ↦ let q = events-here w n c.loop-i.i (omega arith) e.if-items-i-eq-EVENT.true in (omega arith, omega arith)
+      | else-items-i-eq-EVENT e ↦ let q = events-over w n c.loop-i.i (omega arith) e.if-items-i-eq-EVENT.false in (omega arith, omega arith)
+    ]
 
 pub returns : goal.returns
 returns c =

@@ -2,7 +2,6 @@
 use mathlib.Core.Path.{◌≡◌, sym, ap, ◌∙◌}
 use mathlib.Core.Bool.{true, false}
 use mathlib.Core.List.{List}
-use mathlib.Core.Logic.{⊎_elim}
 use Prim.Native.Nat.{ℕ, ◌+◌, ◌-◌, ◌≤◌, ◌<◌}
 use native.Mathlib.Nat.{add-zero}
 use native.Mathlib.Omega.{arith}
@@ -19,6 +18,7 @@ use Rattle.place.specs.Items.{place_of}
 use Rattle.place.proofs.Next.{next, item_key}
 use Rattle.place.proofs.Search as find
 use Rattle.place.proofs.one_place.Goals as goal
+use Rattle.place.proofs.one_place.Goals.{then-q-count, else-q-count+else-x-held+else-items-i, else-loop-i-test, then-loop-i-test+in-Nowhere}
 
 -- the log's keys
 abbrev logged : ℕ → ℕ → List ℕ → ℕ → Key
@@ -69,11 +69,14 @@ places-preserved-then-items-i c =
 pub loop-i-init : goal.loop-i-init
 loop-i-init c =
     let s = c.places.invariant in
-    ⊎_elim
-    (λ w. rw (w.3, w.4, w.5, w.6, w.7, w.8)
-    (find.pass-walk _ _ _ _ _ _ s.ahead.head_in s.ahead.head (find.walk_first s w.0.taken) w.2.ensures))
-    (λ w. rw (w.5, w.6, w.7, w.8, w.9, w.10) (find.walk-later s _ w.0.left w.1.left (next _ _ _ _ (omega arith) w.2.ensures)))
-    c.if-q-count.branch
+    elim c.if-q-count.branch [
+      | then-q-count w ↦
+          rw (w.q-is, w.x-is, w.j-is, w.i-is, w.l-is, w.cj-is)
+          (find.pass-walk _ _ _ _ _ _ s.ahead.head_in s.ahead.head (find.walk_first s w.if-q-count.true) w.next_entry-q-then-q-count.ensures)
+      | else-q-count+else-x-held+else-items-i w ↦
+          rw (w.q-is, w.x-is, w.j-is, w.i-is, w.l-is, w.cj-is)
+          (find.walk-later s _ w.if-q-count.false w.if-x-held.false (next _ _ _ _ (omega arith) w.next_event-x-else-q-count.ensures))
+    ]
 
 pub match_at_slice-requires : goal.match_at_slice-requires
 match_at_slice-requires c =
@@ -98,35 +101,36 @@ pub places-preserved-then-not-run-level : goal.places-preserved-then-not-run-lev
 places-preserved-then-not-run-level c = find.off c.loop-i.invariant ((let settled_is : find.Settled c.loop-i.invariant = let a = c.args in
     let v = c.loop-i.invariant in
     find.settled v
-    (⊎_elim
-    (λ w. find.end-items v w.left)
-    (λ w. find.end-log v (is-past a.keys.now _ _ a.head.front a.g _ (item_key a.items.now c.loop-i.i) w.7.given.1 w.5.ensures))
-    c.loop-i-test.branch) in settled_is) ∙ c.if-not-run-level.true)
+    (elim c.loop-i-test.branch [
+      | else-loop-i-test w ↦ find.end-items v w.loop-i-test.false
+      | then-loop-i-test+in-Nowhere w ↦
+          find.end-log v (is-past a.keys.now _ _ a.head.front a.g _ (item_key a.items.now c.loop-i.i) w.in-Nowhere.is w.match_at_slice.ensures)
+    ]) in settled_is) ∙ c.if-not-run-level.true)
 
 pub places-preserved : goal.places-preserved
 places-preserved c =
-    let a = c.before.before.before in
     find.on c.loop-i.invariant ((let settled_is : find.Settled c.loop-i.invariant = let a = c.args in
     let v = c.loop-i.invariant in
     find.settled v
-    (⊎_elim
-    (λ w. find.end-items v w.left)
-    (λ w. find.end-log v (is-past a.keys.now _ _ a.head.front a.g _ (item_key a.items.now c.loop-i.i) w.7.given.1 w.5.ensures))
-    c.loop-i-test.branch) in settled_is) ∙ c.if-not-run-level.false) c.in_default.is
+    (elim c.loop-i-test.branch [
+      | else-loop-i-test w ↦ find.end-items v w.loop-i-test.false
+      | then-loop-i-test+in-Nowhere w ↦
+          find.end-log v (is-past a.keys.now _ _ a.head.front a.g _ (item_key a.items.now c.loop-i.i) w.in-Nowhere.is w.match_at_slice.ensures)
+    ]) in settled_is) ∙ c.if-not-run-level.false) c.in_default.is
 
 pub returns-then-x-held : goal.returns-then-x-held
 returns-then-x-held c = find.search-end c.places.invariant (omega arith) c.if-q-count.false c.if-x-held.true
 
 pub returns-in-At : goal.returns-in-At
 returns-in-At c =
-    let a = c.before.before in
     sym (ap (place_of _) (find.twice c.loop-i.invariant ((let settled_is : find.Settled c.loop-i.invariant = let a = c.args in
     let v = c.loop-i.invariant in
     find.settled v
-    (⊎_elim
-    (λ w. find.end-items v w.left)
-    (λ w. find.end-log v (is-past a.keys.now _ _ a.head.front a.g _ (item_key a.items.now c.loop-i.i) w.7.given.1 w.5.ensures))
-    c.loop-i-test.branch) in settled_is) ∙ c.if-not-run-level.false) c.in-At.is))
+    (elim c.loop-i-test.branch [
+      | else-loop-i-test w ↦ find.end-items v w.loop-i-test.false
+      | then-loop-i-test+in-Nowhere w ↦
+          find.end-log v (is-past a.keys.now _ _ a.head.front a.g _ (item_key a.items.now c.loop-i.i) w.in-Nowhere.is w.match_at_slice.ensures)
+    ]) in settled_is) ∙ c.if-not-run-level.false) c.in-At.is))
 
 pub next_event-first-requires : goal.next_event-first-requires
 next_event-first-requires c = (omega arith, omega arith)
@@ -243,31 +247,31 @@ pub loop-i-smaller : goal.loop-i-smaller
 loop-i-smaller c = omega arith
 
 pub places-smaller-in-Differs : goal.places-smaller-in-Differs
-places-smaller-in-Differs c = (let less_is : (let a = c.args in (a.head.count - c.if-q-count.q) + (a.held - c.if-q-count.x) < (a.head.count - c.places.q) + (a.held - c.places.x)) = ⊎_elim
-    (λ w.
-    let p = w.2.ensures.past in
-    let i = w.2.ensures.inside in omega arith)
-    (λ w. omega arith)
-    c.if-q-count.branch in less_is)
+places-smaller-in-Differs c = (let less_is : (let a = c.args in (a.head.count - c.if-q-count.q) + (a.held - c.if-q-count.x) < (a.head.count - c.places.q) + (a.held - c.places.x)) = elim c.if-q-count.branch [
+  | then-q-count w ↦
+      let p = w.next_entry-q-then-q-count.ensures.past in
+      let i = w.next_entry-q-then-q-count.ensures.inside in omega arith
+  | else-q-count+else-x-held+else-items-i w ↦ omega arith
+] in less_is)
 
 pub overflow_sub-run : goal.overflow_sub-run
 overflow_sub-run c = omega arith
 
 pub places-smaller-then-not-run-level : goal.places-smaller-then-not-run-level
-places-smaller-then-not-run-level c = (let less_is : (let a = c.args in (a.head.count - c.if-q-count.q) + (a.held - c.if-q-count.x) < (a.head.count - c.places.q) + (a.held - c.places.x)) = ⊎_elim
-    (λ w.
-    let p = w.2.ensures.past in
-    let i = w.2.ensures.inside in omega arith)
-    (λ w. omega arith)
-    c.if-q-count.branch in less_is)
+places-smaller-then-not-run-level c = (let less_is : (let a = c.args in (a.head.count - c.if-q-count.q) + (a.held - c.if-q-count.x) < (a.head.count - c.places.q) + (a.held - c.places.x)) = elim c.if-q-count.branch [
+  | then-q-count w ↦
+      let p = w.next_entry-q-then-q-count.ensures.past in
+      let i = w.next_entry-q-then-q-count.ensures.inside in omega arith
+  | else-q-count+else-x-held+else-items-i w ↦ omega arith
+] in less_is)
 
 pub overflow_add-found : goal.overflow_add-found
 overflow_add-found c = omega arith
 
 pub places-smaller : goal.places-smaller
-places-smaller c = (let less_is : (let a = c.args in (a.head.count - c.if-q-count.q) + (a.held - c.if-q-count.x) < (a.head.count - c.places.q) + (a.held - c.places.x)) = ⊎_elim
-    (λ w.
-    let p = w.2.ensures.past in
-    let i = w.2.ensures.inside in omega arith)
-    (λ w. omega arith)
-    c.if-q-count.branch in less_is)
+places-smaller c = (let less_is : (let a = c.args in (a.head.count - c.if-q-count.q) + (a.held - c.if-q-count.x) < (a.head.count - c.places.q) + (a.held - c.places.x)) = elim c.if-q-count.branch [
+  | then-q-count w ↦
+      let p = w.next_entry-q-then-q-count.ensures.past in
+      let i = w.next_entry-q-then-q-count.ensures.inside in omega arith
+  | else-q-count+else-x-held+else-items-i w ↦ omega arith
+] in less_is)

@@ -8,8 +8,7 @@ overflow_add-token c = let k = rw c.in-Snapshot.is at c.requires.kind in omega a
 
 pub returns-in-Snapshot : goal.returns-in-Snapshot
 returns-in-Snapshot c =
-    let g = c.item-1.given in
-    rw c.put4.ensures (items-put c.args.i _ _ _ _ _ _ c.requires.inside (token-item _ _ _ _ ∙ sym g.1))
+    rw c.put4.ensures (items-put c.args.i _ _ _ _ _ _ c.requires.inside (token-item _ _ _ _ ∙ sym c.in-Snapshot.is))
 
 pub returns-in-Event : goal.returns-in-Event
 returns-in-Event c =

@@ -1,9 +1,9 @@
-use mathlib.Core.Logic.{⊎_elim}
 use Prim.Native.Nat.{◌-◌}
 use native.Mathlib.Omega.{arith}
 use Rattle.rules.specs.Entering.{pendings}
 use Rattle.store.proofs.ConnLaws.{pending-here, pending-over, pending-end, pendings-fit}
 use Rattle.store.proofs.conns.pendings.Goals as goal
+use Rattle.store.proofs.conns.pendings.Goals.{then-pending, else-pending}
 
 pub loop-i-init : goal.loop-i-init
 loop-i-init c = (omega arith, omega arith)
@@ -23,10 +23,10 @@ loop-i-preserved c =
     let w = c.args.s.now in
     let a = c.line_at.ensures in
     let b = c.pending.ensures in
-    ⊎_elim
-    (λ e. let q = pending-here w c.loop-i.i (omega arith) _ a _ b e.0.taken in (omega arith, omega arith))
-    (λ e. let q = pending-over w c.loop-i.i (omega arith) _ a _ b e.0.left in (omega arith, omega arith))
-    c.if-pending.branch
+    elim c.if-pending.branch [
+      then-pending e ↦ let q = pending-here w c.loop-i.i (omega arith) _ a _ b e.if-pending.true in (omega arith, omega arith)
+    | else-pending e ↦ let q = pending-over w c.loop-i.i (omega arith) _ a _ b e.if-pending.false in (omega arith, omega arith)
+    ]
 
 pub returns : goal.returns
 returns c =
