@@ -30,7 +30,7 @@ returns c =
     counts-told _ c.limits-l.ensures c.head-head.ensures c.count-lines.ensures c.used-used.ensures
     (record {
       entries = omega (arith, entries);
-      numbers = omega (arith, entries, numbers, c.limits-l.type-inv, c.head-head.type-inv);
+      numbers = omega (arith, entries, numbers, c.limits-l.type_inv, c.head-head.type_inv);
       lines = omega (arith, c.if-l-lines.false);
       keys = says-yes (size c.used-used.result.keys ≤ c.limits-l.result.C) c.within.ensures (c.if-not-within.false);
       pairs = says-yes (size c.used-used.result.counts ≤ c.limits-l.result.D) c.within-2.ensures (c.if-not-within-2.false);

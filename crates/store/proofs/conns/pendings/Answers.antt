@@ -24,8 +24,8 @@ loop-i-preserved c =
     let a = c.line_at.ensures in
     let b = c.pending.ensures in
     elim c.if-pending.branch [
-      then-pending e ↦ let q = pending-here w c.loop-i.i (omega arith) _ a _ b e.if-pending.true in (omega arith, omega arith)
-    | else-pending e ↦ let q = pending-over w c.loop-i.i (omega arith) _ a _ b e.if-pending.false in (omega arith, omega arith)
+      | then-pending e ↦ let q = pending-here w c.loop-i.i (omega arith) _ a _ b e.if-pending.true in (omega arith, omega arith)
+      | else-pending e ↦ let q = pending-over w c.loop-i.i (omega arith) _ a _ b e.if-pending.false in (omega arith, omega arith)
     ]
 
 pub returns : goal.returns

@@ -13,4 +13,4 @@ pub returns : goal.returns
 returns c =
     let r = c.clear_head-new.ensures in
     let q = c.head.ensures in
-    head_done refl c.requires.sized q c.clear_head-new.result clear (below refl c.requires.sized q r.1.1.1) (r.0 _ _) c.put_head.ensures
+    head_done refl c.requires.sized q c.clear_head-new.result clear (below refl c.requires.sized q r.base_value.1.1) (r.by_index _ _) c.put_head.ensures

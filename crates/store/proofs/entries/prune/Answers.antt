@@ -10,4 +10,4 @@ pub returns : goal.returns
 returns c =
     let r = c.prune-new.ensures in
     head_done c.tables_start-e.ensures c.requires.sized c.head-old.ensures
-    c.prune-new.result (prune c.args.t) r.1.0.front r.0 c.put_head.ensures
+    c.prune-new.result (prune c.args.t) r.fit.0.front r.result_value c.put_head.ensures

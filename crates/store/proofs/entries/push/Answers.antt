@@ -10,4 +10,4 @@ pub returns : goal.returns
 returns c =
     let r = c.push_head-new.ensures in
     log-done c.tables_start-e.ensures c.requires.sized c.head-old.ensures
-    c.push_head-new.new.area c.push_head-new.result (push c.args.key c.args.t) r.1.0 r.0 c.put_head.ensures
+    c.push_head-new.new.area c.push_head-new.result (push c.args.key c.args.t) r.fit.0 r.result_after c.put_head.ensures
