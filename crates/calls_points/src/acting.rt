@@ -64,10 +64,10 @@ fn tick(
 }
 
 // How many words of a list are lent: so many, or all where it has fewer.
-fn lent(length: u64, list: &[u64]) -> usize
+fn lent(most: u64, list: &[u64]) -> usize
     ensures { (result ≤ length list.now) × (result ≡ length (take result list.now)) }
 {
-    let n = length as usize;
+    let n = most as usize;
     if n < list.len() {
         return n;
     }
