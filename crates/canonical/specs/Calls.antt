@@ -6,7 +6,6 @@ use Rattle.json_text.specs.Grammar.{Text}
 use Rattle.json_text.specs.Refusals.{longest, Judged, fault}
 use Rattle.json_text.specs.Values.{Value}
 use Rattle.canonical.specs.declared.Answer.{Answer}
-use Rattle.canonical.specs.declared.Answer.TheVariants as Answer
 
 -- "An output under 163,840 bytes is refused with 3, before the rest."
 abbrev pub least : ℕ

@@ -5,7 +5,6 @@ use Prim.Native.Nat.{ℕ, ◌≤◌}
 use lib.ListN.{length}
 use Rattle.json_text.specs.Refusals.{longest, Judged, no_text, judged}
 use Rattle.json_check.specs.declared.Reading.{Reading}
-use Rattle.json_check.specs.declared.Reading.TheVariants as Reading
 use Rattle.json_check.specs.Runs.{Run, start}
 use Rattle.json_check.specs.Steps.{found}
 use Rattle.json_check.proofs.RunsText.{runs-text}

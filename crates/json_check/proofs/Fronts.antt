@@ -8,7 +8,7 @@ use lib.Dec.{eqb}
 use lib.ListN.{drop}
 use borrow.Author.Tests.{eqb-true, ne_eqb}
 use Rattle.json_text.specs.Bytes.{within, is_ws, is_digit}
-use Rattle.json_text.specs.Grammar.{ws, name, Val}
+use Rattle.json_text.specs.Grammar.{Val}
 use Rattle.json_text.specs.Grammar.{a_null, a_true, a_false, a_number, a_string, empty_array, an_array, empty_object, an_object}
 use Rattle.json_text.specs.Refusals.{first}
 use Rattle.json_text.specs.Values.{Value}

@@ -9,7 +9,6 @@ use lib.ListN.{length, drop}
 use Rattle.json_text.specs.Work.{skip_ws}
 use Rattle.json_check.specs.declared.Place.{Place}
 use Rattle.json_check.specs.declared.Step.{Step}
-use Rattle.json_check.specs.declared.Step.TheVariants as Step
 use Rattle.json_check.specs.Runs.{State, Next, Run, ended, stopped, goes, start, next, of_value, of_after}
 use Rattle.json_check.specs.Steps.{stack, value_at, after_at, Inside, Stepped}
 

@@ -6,7 +6,6 @@ use Prim.Native.Nat.{ℕ, ◌≤◌, ◌<◌}
 use native.Mathlib.Omega.{arith}
 use lib.ListN.{length, drop}
 use Rattle.json_check.specs.declared.Step.{Step}
-use Rattle.json_check.specs.declared.Step.TheVariants as Step
 use Rattle.json_check.specs.Runs.{Next, go, done, bad, value, after}
 use Rattle.json_check.specs.Steps.{stack, Stepped}
 

@@ -16,7 +16,7 @@ use Rattle.json_check.specs.Runs.{in_array, in_object, of_string, of_number, of_
 use Rattle.json_text.specs.Values.{Value, Items, Members}
 use Rattle.json_text.specs.Work.{byte_at, skip_ws, up_to, word_rest, literal_rest}
 use Rattle.json_text.proofs.Spaces.{ws-skips, skip-front}
-use Rattle.json_text.proofs.CharsLaws.{chars_rest}
+use Rattle.json_text.proofs.CharsLaws.{chars_rest_lem}
 use Rattle.json_text.proofs.NumberLaws.{number-rest, number-front, up-to-append}
 use Rattle.json_text.specs.Work.{goes_on}
 use Rattle.json_text.proofs.NameLaws.{name-rest}
@@ -48,7 +48,7 @@ module _ (k : List Bool) (g : ℕ) where
 
   string-step : {s x r : List ℕ} → Chars s x r → next (value k (0x22 ∷ s) g) ≡ go (after k r g)
   unfolding next of_value of_string
-  string-step c = rw (chars_rest c)
+  string-step c = rw (chars_rest_lem c)
 
   empty-array-step :
       {s r : List ℕ} → Ws s (0x5D ∷ r) → next (value k (0x5B ∷ s) g) ≡ go (after k r (first g (depth_fault (length k))))

@@ -4,9 +4,7 @@ use Rattle.std.proofs.Math.Option.{Option, none, some}
 use Rattle.json_text.specs.Refusals.{longest}
 use Rattle.json_check.specs.declared.Place.{Place}
 use Rattle.json_check.specs.declared.Step.{Step}
-use Rattle.json_check.specs.declared.Step.TheVariants as Step
 use Rattle.json_check.specs.declared.Reading.{Reading}
-use Rattle.json_check.specs.declared.Reading.TheVariants as Reading
 use Rattle.json_check.specs.Runs.{State, value, after, Next, go, done, bad}
 
 abbrev pub stack : List Bool → ℕ → List Bool

@@ -12,12 +12,14 @@ use json_text::names::{literal_end, name_end};
 use json_text::numbers::{number_allowed, number_end};
 use json_text::strings::string_end;
 
+#[tactic(auto, unfolding(json_text::specs::Refusals::first))]
 fn first(found: u64, fault: u64) -> u64
     ensures { result ≡ first found fault }
 {
     if found == 0 { fault } else { found }
 }
 
+#[tactic(auto, unfolding(json_text::specs::Refusals::depth_fault))]
 fn depth_fault(depth: usize) -> u64
     ensures { result ≡ depth_fault depth }
 {

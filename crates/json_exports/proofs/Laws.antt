@@ -2,10 +2,8 @@
 use mathlib.Core.Path.{◌≡◌, refl}
 use Prim.Native.Nat.{ℕ}
 use Rattle.canonical.specs.declared.Answer.{Answer}
-use Rattle.canonical.specs.declared.Answer.TheVariants as Answer
 use Rattle.json_exports.specs.Told.{Tells, TellsKey}
 use Rattle.message_keys.specs.declared.Keyed.{Keyed}
-use Rattle.message_keys.specs.declared.Keyed.TheVariants as Keyed
 use Rattle.rules.specs.Quantities.{Key}
 
 pub tells-written : (a : Answer) (n : ℕ) → a ≡ Answer.Written n → Tells a 1 n

@@ -1,9 +1,7 @@
 -- What an answer's numbers say: code 1 is done, code 0 refused, and the number is then the refusal's.
 use Rattle.std.specs.Prelude.{◌≡◌, ℕ}
 use Rattle.canonical.specs.declared.Answer.{Answer}
-use Rattle.canonical.specs.declared.Answer.TheVariants as Answer
 use Rattle.message_keys.specs.declared.Keyed.{Keyed}
-use Rattle.message_keys.specs.declared.Keyed.TheVariants as Keyed
 use Rattle.rules.specs.Quantities.{key}
 
 -- the number is how many bytes were written

@@ -8,12 +8,12 @@ use borrow.Author.Tests.{ltb-false, lt-leb, ne_eqb}
 use lib.Dec.{leb, ltb}
 use lib.ListN.{length, take, drop, get_or}
 use Rattle.json_text.specs.declared.numbers.Decimal.{Decimal}
-use Rattle.json_text.specs.declared.numbers.Decimal.TheVariants as Decimal
 use Rattle.json_text.specs.Bytes.{within}
 use Rattle.json_text.specs.Refusals.{all_digits, decimal, allowed}
 use Rattle.json_text.specs.Work.{byte_at, pick_decimal, decimal_of}
 use Rattle.json_text.proofs.Bounds.{byte-at}
 use Rattle.json_text.proofs.DecimalLaws.{part-on}
+use Rattle.std.proofs.lemmas.Bool.Decides.{nat_tests}
 
 -- a run of digits that writes n
 pub record Written (x : List ℕ) (n : ℕ) : Type 0 where
@@ -91,3 +91,24 @@ module _ (t : List ℕ) (from to : ℕ) (h : from < to) (k : to ≤ length t) wh
 
     pub digits-refused : decimal_of (take (to - from) (drop from t)) ≡ Decimal.Outside → allowed (take (to - from) (drop from t)) ≡ false
     digits-refused d = ap allowed (part-on t from to h k) ∙ other-outside _ _ no_minus (ap decimal_of (sym (part-on t from to h k)) ∙ d)
+
+-- what a minus and a run of digits say, by what the digits write
+pub behind_minus : Decimal → Bool
+behind_minus (Decimal.Number n) = leb 1 n && leb n (2 ^ 63)
+behind_minus Decimal.Outside = false
+
+pub behind_number : (n : ℕ) → behind_minus (Decimal.Number n) ≡ (leb 1 n && leb n (2 ^ 63))
+unfolding behind_minus
+behind_number n = refl
+
+pub minus_allowed :
+    (t : List ℕ) (from to : ℕ) → from < to → to ≤ length t → get_or t from 0 ≡ 0x2D →
+    allowed (take (to - from) (drop from t)) ≡ behind_minus (decimal_of (take (to - (from + 1)) (drop (from + 1) t)))
+unfolding behind_minus within
+minus_allowed t from to h k m = go (decimal_of (take (to - (from + 1)) (drop (from + 1) t))) refl
+  where
+    go : (d : Decimal) → decimal_of (take (to - (from + 1)) (drop (from + 1) t)) ≡ d → allowed (take (to - from) (drop from t)) ≡ behind_minus d
+    go (Decimal.Number n) e = minus-within t from to h k m n e
+    go Decimal.Outside e = minus-refused t from to h k m e
+
+pub ruleset minus_rules = (nat_tests, minus_allowed, behind_number)

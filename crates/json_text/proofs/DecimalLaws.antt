@@ -8,7 +8,6 @@ use borrow.Author.Tests.{lt-ltb, le-ltb}
 use lib.Dec.{ltb}
 use lib.ListN.{length, take, drop}
 use Rattle.json_text.specs.declared.numbers.Decimal.{Decimal}
-use Rattle.json_text.specs.declared.numbers.Decimal.TheVariants as Decimal
 use Rattle.json_text.specs.Bytes.{is_digit}
 use Rattle.json_text.specs.Refusals.{all_digits, decimal}
 use Rattle.json_text.specs.Work.{byte_at, pick_decimal, decimal_of}

@@ -6,7 +6,6 @@ use Prim.Native.Nat.{ℕ, ◌≤◌}
 use native.Mathlib.Omega.{arith}
 use lib.ListN.{length, drop}
 use Rattle.json_text.specs.declared.End.{End}
-use Rattle.json_text.specs.declared.End.TheVariants as End
 use Rattle.json_text.specs.Work.{Ends}
 
 pub ends_at : (t : List ℕ) (low e : ℕ) {o : Option (List ℕ)} → o ≡ some (drop e t) → low ≤ e → e ≤ length t → Ends t low o (End.At e)

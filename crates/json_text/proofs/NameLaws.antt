@@ -1,12 +1,11 @@
 -- A member's name and colon, as the grammar has them and as they are read.
-use mathlib.Core.Path.{◌≡◌, refl, sym, ◌∙◌, ap}
+use mathlib.Core.Path.{◌≡◌, refl, ◌∙◌, ap}
 use mathlib.Core.Bool.{Bool, true, false, cond}
 use mathlib.Core.List.{List, [], ◌∷◌}
 use mathlib.Core.Option.{Option, none, some}
 use Prim.Native.Nat.{ℕ}
 use borrow.Author.Tests.{eqb-true}
 use lib.Dec.{eqb}
-use lib.ListN.{drop}
 use Rattle.json_text.specs.Bytes.{is_ws}
 use Rattle.json_text.specs.Grammar.{Ws, Name, name}
 use Rattle.json_text.specs.Work.{byte_at, skip_ws, chars_rest, and_then, colon_rest, name_rest}

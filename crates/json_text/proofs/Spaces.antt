@@ -1,9 +1,9 @@
 -- ws, as the grammar has it and as it is skipped.
-use mathlib.Core.Path.{◌≡◌, refl, sym, ◌∙◌, ap}
+use mathlib.Core.Path.{◌≡◌, refl}
 use mathlib.Core.Bool.{Bool, true, false, cond}
 use mathlib.Core.List.{List, [], ◌∷◌}
 use Prim.Native.Nat.{ℕ, ◌+◌, ◌≤◌, ◌<◌}
-use lib.ListN.{length, drop, get_or}
+use lib.ListN.{length, drop}
 use Rattle.json_text.specs.Bytes.{is_ws}
 use Rattle.json_text.specs.Grammar.{Ws, no_ws, ws}
 use Rattle.json_text.specs.Work.{byte_at, skip_ws}

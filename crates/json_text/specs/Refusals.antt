@@ -1,5 +1,5 @@
 -- Request 4 of document 02: the answers 15, 16 and 17, for whatever bytes come. The quoted words are the request's.
-use Rattle.std.specs.Prelude.{◌≡◌, Bool, true, false, ◌&&◌, cond, List, [], ◌∷◌, ℕ, zero, suc, ◌+◌, ◌-◌, ◌*◌, ◌^◌, ◌≤◌, ◌<◌, leb, ltb, eqb, length}
+use Rattle.std.specs.Prelude.{◌≡◌, Bool, true, false, ◌&&◌, cond, List, [], ◌∷◌, ℕ, zero, suc, ◌+◌, ◌-◌, ◌*◌, ◌^◌, ◌≤◌, ◌<◌, ltb, eqb, length}
 use Rattle.json_text.specs.Bytes.{within, is_digit}
 use Rattle.json_text.specs.Grammar.{Text}
 use Rattle.json_text.specs.Values.{Value, null, boolean, number, string, array, object}

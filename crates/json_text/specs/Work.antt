@@ -1,27 +1,10 @@
 -- What the code reads off the front of bytes s, as functions. The proofs show that they read what the grammar has.
-use Rattle.std.specs.Prelude.{◌≡◌, Bool, true, false, ◌&&◌, ◌||◌, cond, List, [], ◌∷◌, ◌++◌, ℕ, zero, suc, ◌+◌, ◌-◌, ◌^◌, ◌≤◌, ◌<◌, ltb, eqb, length, take, drop, get_or}
+use Rattle.std.specs.Prelude.{◌≡◌, Bool, true, false, ◌&&◌, ◌||◌, cond, List, [], ◌∷◌, ℕ, zero, suc, ◌+◌, ◌-◌, ◌^◌, ◌≤◌, ltb, eqb, length, take, drop, get_or}
 use Rattle.std.proofs.Math.Option.{Option, none, some}
 use Rattle.json_text.specs.declared.End.{End}
-use Rattle.json_text.specs.declared.End.TheVariants as End
 use Rattle.json_text.specs.declared.numbers.Decimal.{Decimal}
-use Rattle.json_text.specs.declared.numbers.Decimal.TheVariants as Decimal
 use Rattle.json_text.specs.Refusals.{all_digits, decimal}
-use Rattle.json_text.specs.Bytes.{
-  within,
-  is_ws,
-  is_digit,
-  plain,
-  tail,
-  first_of_three,
-  first_of_four,
-  escape_of,
-  hex_four,
-  is_scalar,
-  is_high,
-  is_low,
-  joined,
-  utf8,
-}
+use Rattle.json_text.specs.Bytes.{within, is_ws, is_digit, plain, tail, first_of_three, first_of_four, escape_of, hex_four, is_scalar, is_high, is_low}
 
 -- the byte at a place, 256 behind the last
 abbrev pub byte_at : List ℕ → ℕ → ℕ

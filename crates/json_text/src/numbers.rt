@@ -149,6 +149,7 @@ fn decimal_of(text: &[u8], from: usize, to: usize) -> Decimal
 }
 
 // Whether the number between two places is whole and within the bounds.
+#[tactic(auto, using(crate::proofs::AllowedLaws::minus_rules))]
 pub fn number_allowed(text: &[u8], from: usize, to: usize) -> bool
     requires { (from < to) × (to ≤ length text.now) }
     ensures { result ≡ allowed (take (to - from) (drop from text.now)) }

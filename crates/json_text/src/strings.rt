@@ -115,6 +115,7 @@ pub fn hex_at(text: &[u8], at: usize) -> u32
     ((a * 16 + b) * 16 + c) * 16 + d
 }
 
+#[tactic(auto, unfolding(crate::specs::Bytes::is_scalar))]
 pub fn is_scalar(n: u32) -> bool
     ensures { result ≡ is_scalar n }
 {

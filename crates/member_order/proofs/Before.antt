@@ -9,7 +9,6 @@ use borrow.Author.Tests.{ltb-true, ltb-false, lt-ltb, le-ltb}
 use Rattle.rules.proofs.Tests.{ff≢tt}
 use Rattle.json_text.specs.Content.{before}
 use Rattle.member_order.specs.declared.compare.Order.{Order}
-use Rattle.member_order.specs.declared.compare.Order.TheVariants as Order
 use Rattle.member_order.specs.Names.{pick_order, order_of}
 
 cons : {a b : ℕ} {x y : List ℕ} → a ≡ b → x ≡ y → a ∷ x ≡ b ∷ y

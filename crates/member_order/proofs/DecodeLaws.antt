@@ -11,6 +11,7 @@ use Rattle.json_text.specs.Bytes.{within, plain, tail, first_of_three, first_of_
 use Rattle.json_text.specs.Work.{byte_at, hex_at, pair_len, escape_len, utf8_len, char_len}
 use Rattle.json_text.proofs.Bounds.{byte-drop}
 use Rattle.json_text.proofs.CharSteps.{char-fits}
+use Rattle.json_text.proofs.Places.{byte-here}
 use Rattle.json_text.proofs.Tests.{within_low, within-high}
 use Rattle.rules.proofs.Tests.{ff≢tt, by_cond, and-true-left, and-true-right}
 use Rattle.member_order.specs.declared.names.Decoded.{Decoded}
@@ -67,6 +68,12 @@ module _ (s : List ℕ) (e : byte_at s 0 ≡ 0x5C) where
           low-low = within_low 0xDC00 0xDFFF _ low;
           low-high = within-high 0xDC00 0xDFFF _ low;
         }
+
+-- what an escape decodes to is what the char stands for
+pub decodes-escape : (t : List ℕ) (at : ℕ) (d : Decoded) → byte_at t at ≡ 0x5C → Decodes (escape_text (drop at t)) d → Decodes (char_text (drop at t)) d
+decodes-escape t at d e h = rw (escape-text (drop at t) (byte-here t at ∙ e)) h
+
+pub ruleset decode_rules = (decodes-escape)
 
 -- a char that is no escape: itself, of at most four bytes
 module _ (s : List ℕ) (n : eqb (byte_at s 0) 0x5C ≡ false) where

@@ -8,7 +8,6 @@ use native.Mathlib.Omega.{arith}
 use lib.Dec.{eqb}
 use lib.ListN.{length, get_or, set, length-set}
 use Rattle.member_order.specs.declared.compare.Order.{Order}
-use Rattle.member_order.specs.declared.compare.Order.TheVariants as Order
 use Rattle.member_order.specs.declared.sort.Picked.{Picked}
 use Rattle.member_order.specs.Names.{order_of}
 use Rattle.member_order.specs.Order.{insert, insert_all, ordered, run, pick_by, Rewritten}

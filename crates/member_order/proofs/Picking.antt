@@ -7,7 +7,6 @@ use native.Mathlib.Omega.{arith}
 use lib.ListN.{length, drop, get_or}
 use Rattle.json_text.specs.Content.{before}
 use Rattle.member_order.specs.declared.compare.Order.{Order}
-use Rattle.member_order.specs.declared.compare.Order.TheVariants as Order
 use Rattle.member_order.specs.declared.sort.Picked.{Picked}
 use Rattle.member_order.specs.Names.{order_of}
 use Rattle.member_order.specs.Order.{insert_all, run, pick_by, Picks, Rising}

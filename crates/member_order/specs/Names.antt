@@ -5,7 +5,6 @@ use Rattle.json_text.specs.Content.{before}
 use Rattle.json_text.specs.Work.{byte_at, hex_at, utf8_len, char_len, up_to_ff}
 use Rattle.member_order.specs.declared.names.Decoded.{Decoded}
 use Rattle.member_order.specs.declared.compare.Order.{Order}
-use Rattle.member_order.specs.declared.compare.Order.TheVariants as Order
 
 -- of the char that s begins with
 unfoldable pub escape_text : List ℕ → List ℕ

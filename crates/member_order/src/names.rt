@@ -98,6 +98,7 @@ fn byte_of(text: &[u8], at: usize, i: usize, n: usize) -> u8
 }
 
 // A char of n bytes, which stands at the place.
+#[tactic(auto, using(crate::proofs::DecodeLaws::decode_rules))]
 pub fn decode(text: &[u8], at: usize, n: usize) -> Decoded
     requires { (at ≤ longest) × (n ≡ char_len (drop at text.now)) × (0 < n) }
     ensures { Decodes (char_text (drop at text.now)) result }

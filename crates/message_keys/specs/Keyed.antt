@@ -6,7 +6,6 @@ use Rattle.json_text.specs.Content.{content}
 use Rattle.json_text.specs.Refusals.{Judged}
 use Rattle.keys.specs.Keys.{key_of}
 use Rattle.message_keys.specs.declared.Keyed.{Keyed}
-use Rattle.message_keys.specs.declared.Keyed.TheVariants as Keyed
 use Rattle.rules.specs.Quantities.{Key}
 
 -- the key of the canonical bytes of an accepted message

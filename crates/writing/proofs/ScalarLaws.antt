@@ -16,7 +16,6 @@ use Rattle.json_text.specs.Numbers.{Number}
 use Rattle.json_text.specs.Values.{Value, null, boolean, number, string, array, object}
 use Rattle.json_text.specs.Work.{byte_at, chars_rest, number_rest, up_to, Ends}
 use Rattle.json_text.specs.declared.End.{End}
-use Rattle.json_text.specs.declared.End.TheVariants as End
 use Rattle.json_text.proofs.CharsLaws.{chars_rest_lem}
 use Rattle.json_text.proofs.EndLaws.{ends-nowhere-reads, ends-at-reads, ends-at-beyond}
 use Rattle.json_text.proofs.Fronts.{starts_number, starts, val-starts}

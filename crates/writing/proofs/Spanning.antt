@@ -10,7 +10,6 @@ use lib.Dec.{eqb}
 use lib.ListN.{length, drop, get_or, set, length-drop}
 use lib.Seq.{get_or-set_same, get_or-set_other}
 use Rattle.json_text.specs.declared.End.{End}
-use Rattle.json_text.specs.declared.End.TheVariants as End
 use Rattle.json_text.specs.Bytes.{is_ws}
 use Rattle.json_text.specs.Grammar.{Ws, Val}
 use Rattle.json_text.specs.Work.{byte_at, skip_ws}

@@ -1,10 +1,9 @@
 -- Where values and members stand in a text.
-use Rattle.std.specs.Prelude.{◌≡◌, false, List, [], ◌∷◌, ℕ, ◌+◌, ◌-◌, ◌≤◌, ◌<◌, length, drop, get_or}
+use Rattle.std.specs.Prelude.{◌≡◌, false, List, [], ◌∷◌, ℕ, ◌-◌, ◌≤◌, ◌<◌, length, drop, get_or}
 use Rattle.json_text.specs.declared.End.{End}
-use Rattle.json_text.specs.declared.End.TheVariants as End
 use Rattle.json_text.specs.Content.{content, put}
 use Rattle.json_text.specs.Grammar.{Name, Val}
-use Rattle.json_text.specs.Values.{Value, object, Members, no_members, member}
+use Rattle.json_text.specs.Values.{Value, Members, no_members, member}
 use Rattle.json_text.specs.Work.{byte_at, goes_on}
 
 -- the place that an end has, 0 where it has none

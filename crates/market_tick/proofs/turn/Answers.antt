@@ -5,26 +5,26 @@ use Rattle.market_tick.proofs.turn.Goals as goal
 
 pub align_quietly-requires : goal.align_quietly-requires
 align_quietly-requires c =
-    let e = c.before.before.before.before.before.Way-of.ensures in
+    let e = c.way_of-way.ensures in
     (c.requires, way-pends c.args.s.now c.args.i c.args.t c.args.same c.args.due e c.in-Quietly.is)
 
 pub returns-in-Aligns : goal.returns-in-Aligns
 returns-in-Aligns c =
     turn-done c.args.s.now _ _ _ _ _ _ _ c.args.i c.args.t c.args.due c.args.same
-    c.before.before.before.before.before.before.before.before.before.before.before.before.Way-of.ensures Way.Aligns
+    c.way_of-way.ensures Way.Aligns
     c.in-Aligns.is
     c.align.ensures
 
 pub returns-in-Quietly : goal.returns-in-Quietly
 returns-in-Quietly c =
     turn-done c.args.s.now _ _ _ _ _ _ _ c.args.i c.args.t c.args.due c.args.same
-    c.before.before.before.before.before.before.before.before.before.before.before.before.Way-of.ensures Way.Quietly
+    c.way_of-way.ensures Way.Quietly
     c.in-Quietly.is
     c.align_quietly.ensures
 
 pub returns-in-Nowhere : goal.returns-in-Nowhere
 returns-in-Nowhere c =
     turn-done c.args.s.now _ _ _ _ _ _ _ c.args.i c.args.t c.args.due c.args.same
-    c.before.before.before.before.before.before.before.before.before.before.before.before.Way-of.ensures Way.Nowhere
+    c.way_of-way.ensures Way.Nowhere
     c.in-Nowhere.is
     c.ages.ensures

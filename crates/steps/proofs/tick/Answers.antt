@@ -16,19 +16,19 @@ returns-then-short c =
 pub returns-then-reports-lines : goal.returns-then-reports-lines
 returns-then-reports-lines c =
     tick-few c.args.s.now c.args.out.now c.args.reports.now c.args.answers.now c.args.t
-    (sym c.bad_answers.ensures ∙ c.if-bad_answers.false) (sym c.short.ensures ∙ c.if-bad_answers.false)
+    (sym c.bad_answers.ensures ∙ c.if-bad_answers.false) (sym c.short.ensures ∙ c.if-short.false)
     (omega (arith, ap (λ (x : Limits). x.L) c.limits-lines.ensures, c.if-reports-lines.true))
 
 pub tick-requires : goal.tick-requires
 tick-requires c =
     tick-ready c.args.s.now c.args.out.now c.args.reports.now c.args.answers.now c.args.t
-    (sym c.bad_answers.ensures ∙ c.if-bad_answers.false) (sym c.short.ensures ∙ c.if-bad_answers.false) c.requires
+    (sym c.bad_answers.ensures ∙ c.if-bad_answers.false) (sym c.short.ensures ∙ c.if-short.false) c.requires
     (omega (arith, ap (λ (x : Limits). x.L) c.limits-lines.ensures, c.if-reports-lines.false))
 
 pub returns : goal.returns
 returns c =
     tick-done c.args.s.now c.args.out.now c.args.reports.now c.args.answers.now c.args.t
-    (sym c.bad_answers.ensures ∙ c.if-bad_answers.false) (sym c.short.ensures ∙ c.if-bad_answers.false)
+    (sym c.bad_answers.ensures ∙ c.if-bad_answers.false) (sym c.short.ensures ∙ c.if-short.false)
     (omega (arith, ap (λ (x : Limits). x.L) c.limits-lines.ensures, c.if-reports-lines.false)) _ _ c.tick.ensures
 
 pub bad_answers-requires : goal.bad_answers-requires

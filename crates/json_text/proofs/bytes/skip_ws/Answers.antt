@@ -1,7 +1,6 @@
 use borrow.Author.Rules.{rules}
 use mathlib.Core.Path.{◌≡◌, refl, sym, ◌∙◌}
 use mathlib.Core.Bool.{true, false}
-use Prim.Native.Nat.{◌-◌}
 use Rattle.json_text.specs.Bytes.{is_ws}
 use Rattle.json_text.specs.Work.{byte_at}
 use Rattle.json_text.proofs.Bounds.{byte-at}

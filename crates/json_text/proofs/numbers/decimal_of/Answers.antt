@@ -1,6 +1,5 @@
 use borrow.Author.Rules.{rules}
 use mathlib.Core.Path.{sym, ◌∙◌, ap}
-use Prim.Native.Nat.{◌-◌}
 use Rattle.json_text.proofs.Tests.{digit_low}
 use Rattle.json_text.proofs.DecimalLaws.{decimal_from, decimal-first, decimal-large, decimal-none, decimal-on, decimal-stop, part_end}
 use Rattle.json_text.proofs.numbers.decimal_of.Goals as goal

@@ -1,6 +1,5 @@
 use borrow.Author.Rules.{rules}
 use mathlib.Core.Path.{refl, sym, ◌∙◌}
-use Prim.Native.Nat.{◌-◌}
 use native.Mathlib.Omega.{arith}
 use Rattle.json_text.proofs.Marks.{to_end, to-mark, to-slash, to-on}
 use Rattle.json_text.proofs.strings.next_mark.Goals as goal

@@ -1,5 +1,5 @@
 use mathlib.Core.Path.{refl, sym, ◌∙◌}
-use Prim.Native.Nat.{◌+◌, ◌-◌, ◌*◌, ◌^◌, ◌<◌}
+use Prim.Native.Nat.{◌+◌, ◌*◌, ◌^◌, ◌<◌}
 use native.Mathlib.Omega.{arith}
 use Rattle.member_order.proofs.CodeSteps.{name-stays, name-past, coding-starts, coding-small, coding-on, coding-done}
 use Rattle.member_order.proofs.codes.code.Goals as goal

@@ -1,5 +1,4 @@
 use mathlib.Core.Path.{◌≡◌}
-use Prim.Native.Nat.{◌-◌}
 use native.Mathlib.Omega.{arith}
 use Rattle.member_order.proofs.Rewriting.{copied_none, copied_more}
 use Rattle.member_order.proofs.sort.copy_back.Goals as goal

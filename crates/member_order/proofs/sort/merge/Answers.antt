@@ -1,8 +1,6 @@
 use mathlib.Core.Path.{refl, ◌∙◌}
-use Prim.Native.Nat.{◌-◌}
 use native.Mathlib.Omega.{arith}
-use lib.ListN.{length, length-set}
-use Rattle.member_order.specs.Order.{run}
+use lib.ListN.{length-set}
 use Rattle.member_order.proofs.Runs.{length_run}
 use Rattle.member_order.proofs.Merged.{merged-none, merged-more, merged-all}
 use Rattle.member_order.proofs.sort.merge.Goals as goal

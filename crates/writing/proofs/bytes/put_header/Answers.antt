@@ -3,7 +3,6 @@ use mathlib.Core.List.{List}
 use Prim.Native.Nat.{ℕ, ◌+◌, ◌-◌}
 use native.Mathlib.Omega.{arith}
 use lib.ListN.{length, set, length-set}
-use Rattle.writing.specs.Writing.{written}
 use Rattle.writing.proofs.WrittenLaws.{written_none, written_next}
 use Rattle.writing.proofs.PutLaws.{zeros, zeros-length, zeros-more, begun, header-done}
 use Rattle.writing.proofs.bytes.put_header.Goals as goal

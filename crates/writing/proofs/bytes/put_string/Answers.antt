@@ -1,6 +1,6 @@
 use borrow.Author.Rules.{rules}
 use mathlib.Core.Path.{refl}
-use Prim.Native.Nat.{◌+◌, ◌-◌, ◌≤◌}
+use Prim.Native.Nat.{◌+◌, ◌≤◌}
 use native.Mathlib.Omega.{arith}
 use lib.ListN.{length, drop, length-set}
 use Rattle.json_text.specs.Bytes.{plain}
@@ -8,18 +8,7 @@ use Rattle.json_text.proofs.StringSteps.{chars-over, chars-closed}
 use Rattle.json_text.proofs.Tests.{test_of}
 use Rattle.member_order.specs.Names.{chars_text}
 use Rattle.member_order.proofs.TextSteps.{text-over, text-closed}
-use Rattle.writing.proofs.PutLaws.{
-  no-rest,
-  same_rest,
-  Partly,
-  partly_none,
-  partly-room,
-  partly-ends,
-  partly-plain,
-  partly-char-room,
-  partly-special,
-  partly-stuck,
-}
+use Rattle.writing.proofs.PutLaws.{no-rest, same_rest, partly_none, partly-room, partly-ends, partly-plain, partly-char-room, partly-special, partly-stuck}
 use Rattle.writing.proofs.bytes.put_string.Goals as goal
 
 pub loop-i-init : goal.loop-i-init

@@ -1,17 +1,6 @@
 use Prim.Native.Nat.{◌-◌}
 use lib.ListN.{length}
-use Rattle.writing.proofs.PutLaws.{
-  no-rest,
-  same_rest,
-  Partly,
-  partly_none,
-  partly-room,
-  partly-ends,
-  partly-plain,
-  partly-char-room,
-  partly-special,
-  partly-stuck,
-}
+use Rattle.writing.proofs.PutLaws.{Partly}
 use Rattle.writing.proofs.bytes.put_string.Given as goal
 
 abbrev pub invariant-loop-i : goal.invariant-loop-i

@@ -3,7 +3,6 @@ use mathlib.Core.List.{List}
 use Prim.Native.Nat.{ℕ, ◌+◌, ◌-◌, ◌<◌}
 use native.Mathlib.Omega.{arith}
 use lib.ListN.{length, take, drop, get_or, set, length-set}
-use Rattle.writing.specs.Writing.{written}
 use Rattle.writing.proofs.WrittenLaws.{written_none, written_next, run_length, run_more}
 use Rattle.writing.proofs.bytes.put_text.Goals as goal
 

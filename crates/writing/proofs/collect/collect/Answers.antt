@@ -1,6 +1,6 @@
 use borrow.Author.Rules.{rules}
 use mathlib.Core.Path.{refl, ◌∙◌}
-use Prim.Native.Nat.{◌-◌, ◌≤◌}
+use Prim.Native.Nat.{◌≤◌}
 use native.Mathlib.Omega.{arith}
 use lib.ListN.{length}
 use Rattle.json_text.proofs.Places.{place-behind}
@@ -52,4 +52,4 @@ loop-at-preserved c =
     let g =
     gathering-goes-on x _ _ _ _ _ _ _ c.loop-at.invariant.0 _ _ _ o.0 c.skip_ws-behind.ensures c.byte-in-loop-at.ensures _ o.2 ((let wide_is : length c.args.text.now ≤ length c.loop-at.names = omega (arith, c.loop-at.invariant.4, c.requires.2) in wide_is)) c.if-byte-ne44.false _
     c.skip_ws-i-in-loop-at.ensures in
-    (g, o.1, c.note_member-end.auto.names ∙ c.loop-at.invariant.2, search rules, c.note_member-end.auto.1.1.1.0 ∙ c.loop-at.invariant.4)
+    (g, o.1, c.note_member-end.auto.ends ∙ c.loop-at.invariant.2, search rules, c.note_member-end.auto.names ∙ c.loop-at.invariant.4)

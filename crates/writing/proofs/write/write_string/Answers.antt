@@ -14,7 +14,7 @@ put_string-requires c =
     (omega arith, w.0.short, simp length-set (string-room _ _ _ _ w.0 w.1))
 
 pub shape_of-out : goal.shape_of-out
-shape_of-out c = c.put_string.auto.1.1.0 ∙ simp length-set
+shape_of-out c = c.put_string.auto.out ∙ simp length-set
 
 pub returns : goal.returns
 returns c =
