@@ -64,7 +64,7 @@ pub slice_bounds-turn-end : goal.slice_bounds-turn-end
 slice_bounds-turn-end c = omega arith
 
 pub offset_bounds-calls-row-then-k : goal.offset_bounds-calls-row-then-k
-offset_bounds-calls-row-then-k c = omega (arith, c.before.before.before.before.before.before.before.before.before.before.before.before.before.before.before.before.before.before.before.before.before.before.before.before.before.before.well-formed.1.1.1.1.0.1)
+offset_bounds-calls-row-then-k c = omega arith
 
 pub bounds-calls-row : goal.bounds-calls-row
 bounds-calls-row c = omega arith

@@ -22,14 +22,14 @@ overflow_add-result-3 c =
     let a = c.args in
     let p = c.requires in
     let x = c.call-told in
-    omega (arith, c.before.before.before.before.before.before.before.before.before.before.before.before.before.before.before.before.before.before.before.before.before.before.before.before.before.well-formed.1.0.0, count_fits a.w.now a.k a.s.now a.out.now a.reports.now a.answers.now _ _ _ x.result x.ensures x.auto.out x.auto.reports p.out p.reports c.if-told-eq0.false)
+    omega (arith, count_fits a.w.now a.k a.s.now a.out.now a.reports.now a.answers.now _ _ _ x.result x.ensures x.auto.out x.auto.reports p.out p.reports c.if-told-eq0.false)
 
 pub overflow_add-result-4 : goal.overflow_add-result-4
 overflow_add-result-4 c =
     let a = c.args in
     let p = c.requires in
     let x = c.call-told in
-    omega (arith, c.before.before.before.before.before.before.before.before.before.before.before.before.before.before.before.before.before.before.before.before.before.before.before.before.before.before.well-formed.1.1.0.0, reports-fit a.w.now a.k a.s.now a.out.now a.reports.now a.answers.now _ _ _ x.result x.ensures x.auto.out x.auto.reports p.out p.reports c.if-told-eq0.false)
+    omega (arith, reports-fit a.w.now a.k a.s.now a.out.now a.reports.now a.answers.now _ _ _ x.result x.ensures x.auto.out x.auto.reports p.out p.reports c.if-told-eq0.false)
 
 pub returns : goal.returns
 returns c =
@@ -76,10 +76,10 @@ pub put_answer-requires : goal.put_answer-requires
 put_answer-requires c = c.requires.answers
 
 pub overflow_add-result : goal.overflow_add-result
-overflow_add-result c = omega (arith, c.before.before.before.before.before.before.before.before.before.before.before.before.before.before.before.before.before.before.before.before.before.before.before.before.before.before.well-formed.1.1.1.0.0, c.requires.answers)
+overflow_add-result c = omega (arith, c.requires.answers)
 
 pub put_answer-requires-2 : goal.put_answer-requires-2
 put_answer-requires-2 c = c.requires.answers
 
 pub overflow_add-result-2 : goal.overflow_add-result-2
-overflow_add-result-2 c = omega (arith, c.before.before.before.before.before.before.before.before.before.before.before.before.before.before.before.before.before.before.before.before.before.before.before.before.well-formed.1.1.1.0.0, c.requires.answers)
+overflow_add-result-2 c = omega (arith, c.requires.answers)
