@@ -2,79 +2,79 @@
 use crate::text::{entries, number, say};
 use rules::{Asked, Changed, Lost, Step, Ticked, Viewed};
 
-fn refused(n: u64) {
-    say(b": refused");
-    number(n);
-    say(b"\n");
+fn refused(rt: &impl Print, n: u64) {
+    say(rt, b": refused");
+    number(rt, n);
+    say(rt, b"\n");
 }
 
 // A word, the count of records, and the records.
-fn put_out(word: &[u8], out: &[u64], n: usize) {
-    say(word);
-    number(n as u64);
-    entries(b"put", out, n, 7);
-    say(b"\n");
+fn put_out(rt: &impl Print, word: &[u8], out: &[u64], n: usize) {
+    say(rt, word);
+    number(rt, n as u64);
+    entries(rt, b"put", out, n, 7);
+    say(rt, b"\n");
 }
 
-pub fn changed(r: Changed) {
+pub fn changed(rt: &impl Print, r: Changed) {
     match r {
-        Changed::Done => say(b": done\n"),
-        Changed::Refused(n) => refused(n),
+        Changed::Done => say(rt, b": done\n"),
+        Changed::Refused(n) => refused(rt, n),
     }
 }
 
-pub fn step(r: Step, out: &[u64]) {
+pub fn step(rt: &impl Print, r: Step, out: &[u64]) {
     match r {
-        Step::Apply(n) => put_out(b": apply", out, n),
-        Step::Duplicate => say(b": duplicate\n"),
-        Step::Held => say(b": held\n"),
-        Step::Ignored => say(b": ignored\n"),
-        Step::Diverged => say(b": diverged\n"),
-        Step::Failed => say(b": failed\n"),
-        Step::Refused(n) => refused(n),
+        Step::Apply(n) => put_out(rt, b": apply", out, n),
+        Step::Duplicate => say(rt, b": duplicate\n"),
+        Step::Held => say(rt, b": held\n"),
+        Step::Ignored => say(rt, b": ignored\n"),
+        Step::Diverged => say(rt, b": diverged\n"),
+        Step::Failed => say(rt, b": failed\n"),
+        Step::Refused(n) => refused(rt, n),
     }
 }
 
-pub fn lost(r: Lost, out: &[u64]) {
+pub fn lost(rt: &impl Print, r: Lost, out: &[u64]) {
     match r {
-        Lost::Kept => say(b": kept\n"),
-        Lost::Gone => say(b": gone\n"),
-        Lost::Rebuild(n) => put_out(b": rebuild", out, n),
-        Lost::Refused(n) => refused(n),
+        Lost::Kept => say(rt, b": kept\n"),
+        Lost::Gone => say(rt, b": gone\n"),
+        Lost::Rebuild(n) => put_out(rt, b": rebuild", out, n),
+        Lost::Refused(n) => refused(rt, n),
     }
 }
 
-pub fn ticked(r: Ticked, out: &[u64], reports: &[u64]) {
+pub fn ticked(rt: &impl Print, r: Ticked, out: &[u64], reports: &[u64]) {
     match r {
         Ticked::Done {
             reports: k,
             records: n,
         } => {
-            say(b": done");
-            entries(b"report", reports, k, 3);
-            entries(b"put", out, n, 7);
-            say(b"\n");
+            say(rt, b": done");
+            entries(rt, b"report", reports, k, 3);
+            entries(rt, b"put", out, n, 7);
+            say(rt, b"\n");
         }
-        Ticked::Refused(n) => refused(n),
+        Ticked::Refused(n) => refused(rt, n),
     }
 }
 
-pub fn asked(r: Asked) {
+pub fn asked(rt: &impl Print, r: Asked) {
     match r {
-        Asked::Yes => say(b": yes\n"),
-        Asked::No => say(b": no\n"),
-        Asked::Refused(n) => refused(n),
+        Asked::Yes => say(rt, b": yes\n"),
+        Asked::No => say(rt, b": no\n"),
+        Asked::Refused(n) => refused(rt, n),
     }
 }
 
-pub fn viewed(r: Viewed, list: &[u64]) {
+pub fn viewed(rt: &impl Print, r: Viewed, list: &[u64]) {
     match r {
         Viewed::Messages(n) => {
-            say(b": messages");
-            number(n as u64);
-            entries(b"message", list, n, 1);
-            say(b"\n");
+            say(rt, b": messages");
+            number(rt, n as u64);
+            entries(rt, b"message", list, n, 1);
+            say(rt, b"\n");
         }
-        Viewed::Refused(n) => refused(n),
+        Viewed::Refused(n) => refused(rt, n),
     }
 }

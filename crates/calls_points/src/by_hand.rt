@@ -38,45 +38,46 @@ fn same(a: &[u64], b: &[u64], start: usize) -> bool {
 }
 
 // Sets a word.
-fn set(s: &mut [u64], n: &[u64; 8]) {
+fn set(rt: &impl Print, s: &mut [u64], n: &[u64; 8]) {
     copy(s, n[0] as usize, &[n[1]], 0);
-    say(b"\n");
+    say(rt, b"\n");
 }
 
 // Sets four words from a place on.
-fn set_four(s: &mut [u64], n: &[u64; 8]) {
+fn set_four(rt: &impl Print, s: &mut [u64], n: &[u64; 8]) {
     copy(s, n[0] as usize, &[n[1], n[2], n[3], n[4]], 0);
-    say(b"\n");
+    say(rt, b"\n");
 }
 
-fn keep(s: &[u64], out: &[u64], reports: &[u64], kept: &mut [u64]) {
+fn keep(rt: &impl Print, s: &[u64], out: &[u64], reports: &[u64], kept: &mut [u64]) {
     copy(kept, 0, s, 0);
     copy(kept, OUT, out, 0);
     copy(kept, REPORTS, reports, 0);
-    say(b"\n");
+    say(rt, b"\n");
 }
 
-fn again(s: &mut [u64], out: &mut [u64], reports: &mut [u64], kept: &[u64]) {
+fn again(rt: &impl Print, s: &mut [u64], out: &mut [u64], reports: &mut [u64], kept: &[u64]) {
     copy(s, 0, kept, 0);
     copy(out, 0, kept, OUT);
     copy(reports, 0, kept, REPORTS);
-    say(b"\n");
+    say(rt, b"\n");
 }
 
-fn compare(s: &[u64], out: &[u64], reports: &[u64], kept: &[u64]) {
+fn compare(rt: &impl Print, s: &[u64], out: &[u64], reports: &[u64], kept: &[u64]) {
     if same(s, kept, 0) {
         if same(out, kept, OUT) {
             if same(reports, kept, REPORTS) {
-                say(b": yes\n");
+                say(rt, b": yes\n");
                 return;
             }
         }
     }
-    say(b": no\n");
+    say(rt, b": no\n");
 }
 
 // Does what a form from 20 on says.
 pub fn act(
+    rt: &impl Print,
     s: &mut [u64; 344],
     out: &mut [u64; 287],
     reports: &mut [u64; 6],
@@ -85,10 +86,10 @@ pub fn act(
     form: u64,
 ) {
     match form {
-        20 => set(s, n),
-        21 => set_four(s, n),
-        22 => keep(s, out, reports, kept),
-        23 => again(s, out, reports, kept),
-        _ => compare(s, out, reports, kept),
+        20 => set(rt, s, n),
+        21 => set_four(rt, s, n),
+        22 => keep(rt, s, out, reports, kept),
+        23 => again(rt, s, out, reports, kept),
+        _ => compare(rt, s, out, reports, kept),
     }
 }

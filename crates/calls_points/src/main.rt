@@ -7,13 +7,14 @@ mod by_hand;
 mod reading;
 mod text;
 
-ghost use Rattle.std.specs.Prelude.{◌<◌, length};
+ghost use Rattle.std.specs.Prelude.{◌≡◌, ◌≢◌, ℕ, ◌<◌, ◌≤◌, length, slice_index};
 
-use libc::STDIN_FILENO;
+use std::io::Read;
 use text::say;
 
 // Does what a line says; false where it says nothing that can be done.
 fn act(
+    rt: &impl Print,
     line: &[u8],
     s: &mut [u64; 344],
     out: &mut [u64; 287],
@@ -30,9 +31,9 @@ fn act(
         return false;
     }
     if form < 20 {
-        acting::call(s, out, reports, lengths, &n, form);
+        acting::call(rt, s, out, reports, lengths, &n, form);
     } else {
-        by_hand::act(s, out, reports, kept, &n, form);
+        by_hand::act(rt, s, out, reports, kept, &n, form);
     }
     true
 }
@@ -46,6 +47,7 @@ fn is_comment(line: &[u8]) -> bool {
 
 // Writes a line and does what it says; whether to go on.
 fn one_line(
+    rt: &impl Print,
     line: &[u8],
     s: &mut [u64; 344],
     out: &mut [u64; 287],
@@ -53,20 +55,38 @@ fn one_line(
     lengths: &mut [u64; 4],
     kept: &mut [u64; 637],
 ) -> bool {
-    say(line);
+    say(rt, line);
     if is_comment(line) {
-        say(b"\n");
+        say(rt, b"\n");
         return true;
     }
-    if act(line, s, out, reports, lengths, kept) {
+    if act(rt, line, s, out, reports, lengths, kept) {
         return true;
     }
-    say(b": no call\n");
+    say(rt, b": no call\n");
     false
+}
+
+// The place of the first newline from a place on; the input's length where there is none.
+fn line_end(input: &[u8], at: usize) -> usize
+    requires { at ≤ length input.now }
+    ensures within { (at ≤ result) × (result ≤ length input.now) }
+    ensures before { (k : ℕ) → at ≤ k → k < result → slice_index input.now k ≢ 10 }
+    ensures found { result < length input.now → slice_index input.now result ≡ 10 }
+{
+    let mut i = at;
+    while i < input.len() {
+        if input[i] == b'\n' {
+            return i;
+        }
+        i += 1;
+    }
+    i
 }
 
 // The line at a place; the place of the next line, or the end of the input.
 fn next(
+    rt: &impl Print,
     input: &[u8],
     at: usize,
     s: &mut [u64; 344],
@@ -78,15 +98,16 @@ fn next(
     requires { at < length input.now }
     ensures { at < result }
 {
-    let end = bytes::scan::find(input, at, input.len(), b'\n');
+    let end = line_end(input, at);
     let line = &input[at..end];
-    if one_line(line, s, out, reports, lengths, kept) {
+    if one_line(rt, line, s, out, reports, lengths, kept) {
         return end + 1;
     }
     input.len()
 }
 
 fn run(
+    rt: &impl Print,
     input: &[u8],
     s: &mut [u64; 344],
     out: &mut [u64; 287],
@@ -96,20 +117,42 @@ fn run(
     let mut lengths = [0; 4];
     let mut at = 0;
     while at < input.len() {
-        at = next(input, at, s, out, reports, &mut lengths, kept);
+        at = next(rt, input, at, s, out, reports, &mut lengths, kept);
     }
 }
 
-fn main() {
+// Reads until the list is full, the input ends or a read fails; how many bytes were read.
+fn read_full(from: &mut impl Read, to: &mut [u8]) -> usize
+    ensures { result ≤ length to.new }
+{
+    let mut done = 0;
+    while done < to.len() {
+        let n = from.read(&mut to[done..]).unwrap_or(0);
+        if n == 0 {
+            break;
+        }
+        done += n;
+    }
+    done
+}
+
+fn main(rt: HostRuntime) {
     let mut s = [0; 344];
     let mut out = [0; 287];
     let mut reports = [0; 6];
     let mut kept = [0; 637];
-    let mut input = io::large_buffer();
-    let got = io::read_full(STDIN_FILENO, &mut input);
+    let mut input = [0; 65536];
+    let got = read_full(&mut rt.stdin(), &mut input);
     if got == input.len() {
-        say(b"input too long\n");
+        say(&rt, b"input too long\n");
         return;
     }
-    run(&input[..got], &mut s, &mut out, &mut reports, &mut kept);
+    run(
+        &rt,
+        &input[..got],
+        &mut s,
+        &mut out,
+        &mut reports,
+        &mut kept,
+    );
 }

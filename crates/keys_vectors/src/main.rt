@@ -4,26 +4,27 @@
 
 ghost use Rattle.std.specs.Prelude.{◌≡◌, ◌≤◌, length};
 
+use std::io;
+
 // The line of one message.
-fn line(message: &[u8]) {
+fn line(rt: &impl Print, message: &[u8]) -> io::Result<()> {
     let key = keys::key_of(message);
-    io::print_decimal(1, message.len() as u64);
-    io::write_all(1, b" ");
-    io::print_decimal(1, key.0);
-    io::write_all(1, b" ");
-    io::print_decimal(1, key.1);
-    io::write_all(1, b"\n");
+    let length = message.len();
+    let first = key.0;
+    let second = key.1;
+    println!(rt; "{length} {first} {second}")
 }
 
 // The lines of the first n bytes of text, for each n from least to most.
-fn lines(text: &[u8], least: usize, most: usize)
+fn lines(rt: &impl Print, text: &[u8], least: usize, most: usize) -> io::Result<()>
     requires { most ≤ length text.now }
 {
     let mut n = least;
     while n <= most {
-        line(&text[0..n]);
+        line(rt, &text[0..n])?;
         n += 1;
     }
+    Ok(())
 }
 
 // Byte i becomes (i * times + plus) % 256.
@@ -60,7 +61,7 @@ fn random(text: &mut [u8], n: usize, x: u64) -> u64
 
 // The lines of twenty messages out of xorshift64 from seed 1: the next number modulo 1,000 is a message's length, then come its
 // bytes.
-fn random_lines(text: &mut [u8])
+fn random_lines(rt: &impl Print, text: &mut [u8]) -> io::Result<()>
     requires { 1000 ≤ length text.old }
 {
     let mut x: u64 = 1;
@@ -69,23 +70,24 @@ fn random_lines(text: &mut [u8])
         x = next(x);
         let n = (x % 1000) as usize;
         x = random(text, n, x);
-        line(&text[0..n]);
+        line(rt, &text[0..n])?;
         k += 1;
     }
+    Ok(())
 }
 
-fn run(text: &mut [u8])
+fn run(rt: &impl Print, text: &mut [u8]) -> io::Result<()>
     requires { length text.old ≡ 65536 }
 {
     count(text, 1, 0);
-    lines(text, 0, 64);
+    lines(rt, text, 0, 64)?;
     count(text, 7, 3);
-    lines(text, 254, 257);
-    lines(text, 65535, 65536);
-    random_lines(text);
+    lines(rt, text, 254, 257)?;
+    lines(rt, text, 65535, 65536)?;
+    random_lines(rt, text)
 }
 
-fn main() {
+fn main(rt: HostRuntime) -> io::Result<()> {
     let mut text = [0u8; 65536];
-    run(&mut text);
+    run(&rt, &mut text)
 }

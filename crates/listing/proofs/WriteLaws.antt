@@ -1,34 +1,26 @@
 -- Laws of text that is written into a buffer.
 use mathlib.Core.Path.{◌≡◌, refl, sym, ap, subst, ◌∙◌}
-use mathlib.Core.List.{List, [], ◌∷◌, ◌++◌, append-nil}
-use mathlib.Core.Logic.{⊎_elim}
-use Prim.Native.Nat.{ℕ, zero, suc, ◌+◌, ◌-◌, ◌*◌, ◌/◌, ◌%◌, ◌^◌, ◌≤◌, ◌<◌}
-use native.Mathlib.Nat.{pow-suc, one-le-pow, mod-eq_of_lt, pow-le-pow_right}
+use mathlib.Core.List.{List, [], ◌∷◌, ◌++◌}
+use Prim.Native.Nat.{ℕ, zero, suc, ◌+◌, ◌-◌, ◌*◌, ◌^◌, ◌≤◌, ◌<◌}
 use native.Mathlib.Numerals.{add-one}
 use native.Mathlib.Omega.{arith}
 use borrow.Author.Tests.{lt-ltb, le-ltb}
 use lib.ListN.{length, take, drop, set, length-append, length-drop, drop_of_length-le, take-append-drop, get_or}
-use lib.Seq.{length-take-le, take_all, take-length, drop-length, set_split, drop-drop}
-use Rattle.io.specs.Digits.{last_digits, IsDigitCount}
-use Rattle.words.specs.Words.{part, back}
-use Rattle.words.proofs.Cases.{below_or}
+use lib.Seq.{length-take-le, take_all, drop-length, set_split, drop-drop}
+use borrow.Rule.Slice.PartMut.{put_mid}
+use Rattle.std.specs.Fmt.{decimal as std_decimal}
+use Rattle.std.proofs.lemmas.Fmt.{AppendsLastDigit, decimal_from_appends, length-decimal-le}
+use Rattle.words.specs.Words.{part}
 use Rattle.output.specs.Output.{over_at}
 use Rattle.output.proofs.OverLaws.{over-twice}
 use Rattle.listing.specs.Text.{Wrote, digits_up_to, decimal, number, kind_text, record_text, records_text, all_records, report_kind, report_text, report, records_of, reports_text, all_reports}
 
 -- ---- bytes copied to a place, one byte stored, one text behind the other
 
-pub copied : (n : ℕ) (xs ys w : List ℕ) → n + length xs ≤ length w → ys ≡ take (length xs) xs ++ drop (length xs) (part n (length w) w)
-    → Wrote n xs w (back n (length w) ys w) (n + length xs)
-copied n xs ys w h e =
-    let l : length (drop n w) ≡ length w - n = length-drop n w in
-    let p : part n (length w) w ≡ drop n w = take_all (length w - n) (drop n w) (omega arith) in
-    let z : drop (length w - n) (drop n w) ≡ [] = drop_of_length-le (drop n w) {i = length w - n} (omega arith) in
-    let q : ys ≡ xs ++ drop (length xs) (drop n w) = e ∙ (λ i. take-length xs i ++ drop (length xs) (p i)) in
-    record {
-      place = refl;
-      text = ap (λ (l : List ℕ). take n w ++ (ys ++ l)) z ∙ ap (λ (l : List ℕ). take n w ++ l) (append-nil ys) ∙ ap (λ (l : List ℕ). take n w ++ l) q;
-    }
+pub copied : (n : ℕ) (xs ys w : List ℕ) → ys ≡ xs → Wrote n xs w (put_mid n ((n + length xs) - n) w ys) (n + length xs)
+copied n xs ys w e =
+    let k : (n + length xs) - n ≡ length xs = omega arith in
+    record { place = refl; text = λ i. put_mid n (k i) w (e i) }
 
 pub stored : (m x : ℕ) (w : List ℕ) → m < length w → Wrote m (x ∷ []) w (set w m x) (m + 1)
 stored m x w h =
@@ -62,39 +54,25 @@ fits {n} {r} {xs} {u} {w} h a =
 
 -- ---- decimals
 
-pub as-decimal : (f k n : ℕ) → k ≤ f → IsDigitCount 10 1 n k → last_digits 10 k n ≡ digits_up_to f n
+from-front : AppendsLastDigit digits_up_to
 unfolding digits_up_to
-as-decimal f zero n h d = let z = d.0 in absurd (omega arith)
-as-decimal zero (suc k) n h d = absurd (omega arith)
-as-decimal (suc f) (suc zero) n h d =
-    let b : n < 10 = omega (arith, d.1) in
-    rw (mod-eq_of_lt b, lt-ltb n 10 b)
-as-decimal (suc f) (suc (suc k)) n h d =
-    let p = pow-suc 10 k in
-    let q = pow-suc 10 (suc k) in
-    let less : suc (suc k) - 1 ≡ suc k = omega arith in
-    let same : suc k - 1 ≡ k = omega arith in
-    let low : 10 ^ suc k ≤ n = subst (λ (j : ℕ). 10 ^ j ≤ n) less (d.2 (omega arith)) in
-    let high = d.1 in
-    let some : 0 < 10 ^ k = one-le-pow k 10 (omega arith) in
-    let b : 10 ≤ n = omega arith in
-    let m : n % 10 < 10 = omega arith in
-    rw (le-ltb n 10 b, lt-ltb (n % 10) 10 m, ← as-decimal f (suc k) (n / 10) (omega arith) (omega arith, omega arith, (λ j. rw same (omega arith))))
+from-front =
+    record {
+      one = λ k n h. rw (lt-ltb n 10 h);
+      more = λ k n h. rw (le-ltb n 10 h);
+    }
 
-pub few : (x k : ℕ) → x < 2 ^ 64 → IsDigitCount 10 1 x k → k ≤ 20
-few x k h d =
-    ⊎_elim
-    (λ (b : 20 < k).
-    let low = d.2 (omega arith) in
-    let more : 10 ^ 20 ≤ 10 ^ (k - 1) = pow-le-pow_right {n = 10} (omega arith) {i = 20} {j = k - 1} (omega arith) in
-    absurd (omega arith))
-    (λ b. b)
-    (below_or 20 k)
+pub short : (x : ℕ) → x < 2 ^ 64 → length (std_decimal x) ≤ 20
+short x h = length-decimal-le 20 x (omega arith) (omega arith) h
 
-pub number-done : (n m k x end : ℕ) (ds u v : List ℕ) → IsDigitCount 10 1 x k → take k ds ≡ last_digits 10 k x → k ≤ 20 → k ≡ length (take k ds)
-    → n + 21 ≤ length u → length v ≡ length u → Wrote n (take k ds) u v m → (Wrote n (number x end) u (set v m end) (m + 1)) × (m + 1 ≤ n + 21)
-number-done n m k x end ds u v fewest is most size room kept w =
-    let e : take k ds ≡ decimal x = is ∙ as-decimal 20 k x most fewest in
+pub as-decimal : (x : ℕ) → x < 2 ^ 64 → std_decimal x ≡ decimal x
+as-decimal x h = sym (decimal_from_appends digits_up_to from-front 20 x h (short x h))
+
+pub number-done : (n m x end : ℕ) (ds u v : List ℕ) → ds ≡ std_decimal x → x < 2 ^ 64 → n + 21 ≤ length u → length v ≡ length u → Wrote n ds u v m
+    → (Wrote n (number x end) u (set v m end) (m + 1)) × (m + 1 ≤ n + 21)
+number-done n m x end ds u v is size room kept w =
+    let e : ds ≡ decimal x = is ∙ as-decimal x size in
+    let l : length ds ≤ 20 = rw is (short x size) in
     let p = w.place in (
       behind-it (omega arith) (subst (λ (l : List ℕ). Wrote n l u v m) e w) (stored m end v (omega arith)),
       omega arith,

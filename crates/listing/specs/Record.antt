@@ -5,7 +5,6 @@ use Rattle.keys.specs.Sip.{little_endian}
 use Rattle.listing.specs.declared.Fault.TheVariants as Fault
 use Rattle.listing.specs.declared.Call.TheVariants as Call
 use Rattle.listing.specs.declared.Record.{Record}
-use Rattle.listing.specs.declared.Record.TheVariants as Record
 
 -- the eight bytes from a place on, as a number
 abbrev pub word : ℕ → List ℕ → ℕ

@@ -1,13 +1,9 @@
 -- 01, Keys and the program: what a call answers, as text in ASCII.
 use Rattle.std.specs.Prelude.{◌≡◌, List, [], ◌∷◌, ◌++◌, cond, ℕ, zero, suc, ◌+◌, ◌*◌, ◌/◌, ◌%◌, ltb, length, take, drop, get_or}
 use Rattle.rules.specs.declared.Step.{Step}
-use Rattle.rules.specs.declared.Step.TheVariants as Step
 use Rattle.rules.specs.declared.Lost.{Lost}
-use Rattle.rules.specs.declared.Lost.TheVariants as Lost
 use Rattle.rules.specs.declared.Ticked.{Ticked}
-use Rattle.rules.specs.declared.Ticked.TheVariants as Ticked
 use Rattle.rules.specs.declared.Changed.{Changed}
-use Rattle.rules.specs.declared.Changed.TheVariants as Changed
 use Rattle.output.specs.Output.{over_at}
 
 -- xs was written into a buffer from place n on, and r is the place behind it

@@ -2,6 +2,7 @@
 ghost use Rattle.std.specs.Prelude.{◌≡◌, [], ◌∷◌, ◌++◌, ◌+◌, ◌-◌, ◌*◌, ◌≤◌, ◌<◌, length, take, drop};
 ghost use Rattle.listing.specs.Text.{Wrote, number as Text·number, kind_text, front_text, rest_text, record_text, all_records, refused_text, bad_text, step_text, lost_text, changed_text, report_kind, report_text, all_reports, ticked_text};
 
+use itoa::Buffer;
 use rules::{Changed, Lost, Step, Ticked};
 
 // The bytes as they are.
@@ -9,8 +10,9 @@ pub fn put(text: &mut [u8], n: usize, bytes: &[u8]) -> usize
     requires { n + length bytes.now ≤ length text.old }
     ensures { Wrote n bytes.now text.old text.new result }
 {
-    bytes::copy(bytes, &mut text[n..]);
-    n + bytes.len()
+    let end = n + bytes.len();
+    text[n..end].copy_from_slice(bytes);
+    end
 }
 
 // A number in decimal, and one byte behind it.
@@ -18,9 +20,8 @@ pub fn put_number(text: &mut [u8], n: usize, x: u64, end: u8) -> usize
     requires { n + 21 ≤ length text.old }
     ensures { (Wrote n (Text·number x end) text.old text.new result) × (result ≤ n + 21) }
 {
-    let mut digits = [0u8; 20];
-    let k = io::decimal(x, &mut digits);
-    let m = put(text, n, &digits[..k]);
+    let mut digits = Buffer::new();
+    let m = put(text, n, digits.format(x).as_bytes());
     text[m] = end;
     m + 1
 }

@@ -4,7 +4,6 @@ use Rattle.rules.specs.Lines.{event_keys}
 use Rattle.rules.specs.Place.{alignment}
 use Rattle.event_log.specs.Log.{keys_of}
 use Rattle.place.specs.declared.Place.{Place}
-use Rattle.place.specs.declared.Place.TheVariants as Place
 use Rattle.place.specs.Items.{items_in, place_of}
 
 -- a log p q r s p q r s, in a ring of 8 from place 6 on

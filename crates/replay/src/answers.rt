@@ -1,7 +1,6 @@
 // The text of what a list of calls answered.
 ghost use Rattle.std.specs.Prelude.{◌≡◌, true, ◌+◌, ◌*◌, ◌≤◌, length};
 
-use libc::STDOUT_FILENO;
 use listing::writing::{put_changed, put_lost, put_step, put_ticked};
 use rules::{Changed, Lost, Step, Ticked};
 
@@ -16,7 +15,7 @@ pub struct Text {
 }
 
 // Writes the text where it leaves no room for another call's.
-pub fn with_room(text: &[u8], n: usize) -> Text
+pub fn with_room(rt: &impl Print, text: &[u8], n: usize) -> Text
     requires { (n ≤ length text.now) × (80000 ≤ length text.now) }
     ensures { result.n + 80000 ≤ length text.now }
 {
@@ -25,7 +24,7 @@ pub fn with_room(text: &[u8], n: usize) -> Text
     }
     Text {
         n: 0,
-        on: io::write_all(STDOUT_FILENO, &text[..n]),
+        on: rt.write_all(&text[..n]).is_ok(),
     }
 }
 
@@ -98,7 +97,14 @@ fn reports_end(len: usize, at: usize, count: u64) -> usize
 }
 
 // The text of answers of three words each.
-pub fn put_answers(text: &mut [u8], n: usize, answers: &[u64], out: &[u64], reports: &[u64]) -> Text
+pub fn put_answers(
+    rt: &impl Print,
+    text: &mut [u8],
+    n: usize,
+    answers: &[u64],
+    out: &[u64],
+    reports: &[u64],
+) -> Text
     requires out_len_bound { (length out.now ≤ 4046) × (length reports.now ≤ 24) }
     requires n_in_bounds { n + 80000 ≤ length text.old }
     ensures { (result.n ≤ length text.new) × (result.on ≡ true → result.n + 80000 ≤ length text.new) }
@@ -118,7 +124,7 @@ pub fn put_answers(text: &mut [u8], n: usize, answers: &[u64], out: &[u64], repo
             &out[record..],
             &reports[report..],
         );
-        k = with_room(text, m);
+        k = with_room(rt, text, m);
         if !k.on {
             return k;
         }

@@ -4,10 +4,10 @@
 ghost use Rattle.std.specs.Prelude.{◌≡◌, true, ◌+◌, ◌*◌, ◌/◌, ◌≤◌, ◌<◌, ◌^◌, length};
 
 use batch::Batched;
-use libc::{STDIN_FILENO, STDOUT_FILENO};
 use listing::writing::{put_bad, put_changed, put_ticked};
 use reading::Next;
 use rules::{Changed, Limits, Ticked};
+use std::io::Read;
 
 mod answers;
 mod reading;
@@ -47,11 +47,11 @@ fn tick(s: &mut [u64], out: &mut [u64], reports: &mut [u64], answer: u64, time: 
 }
 
 // One record was taken, and its text ends here.
-fn one(text: &[u8], n: usize) -> Taken
+fn one(rt: &impl Print, text: &[u8], n: usize) -> Taken
     requires { (n ≤ length text.now) × (80000 ≤ length text.now) }
     ensures { (result.n + 80000 ≤ length text.now) × (result.records ≡ 1) }
 {
-    let k = answers::with_room(text, n);
+    let k = answers::with_room(rt, text, n);
     Taken {
         records: 1,
         n: k.n,
@@ -60,12 +60,12 @@ fn one(text: &[u8], n: usize) -> Taken
 }
 
 // The first call of a list was refused, and no other was made.
-fn refused(text: &mut [u8], n: usize, number: u64) -> Taken
+fn refused(rt: &impl Print, text: &mut [u8], n: usize, number: u64) -> Taken
     requires { n + 80000 ≤ length text.old }
     ensures { (result.n + 80000 ≤ length text.new) × (result.records ≡ 1) }
 {
     let m = put_changed(text, n, Changed::Refused(number));
-    one(text, m)
+    one(rt, text, m)
 }
 
 fn at_most(a: usize, b: usize) -> usize
@@ -80,6 +80,7 @@ fn at_most(a: usize, b: usize) -> usize
 
 // The calls of a list, as far as there is room for their records.
 fn list(
+    rt: &impl Print,
     s: &mut [u64],
     out: &mut [u64],
     reports: &mut [u64],
@@ -97,23 +98,24 @@ fn list(
     match did {
         Batched::Did { calls, .. } => {
             if calls == 0 {
-                return refused(text, n, 3);
+                return refused(rt, text, n, 3);
             }
             let made = at_most(calls, rows.len() / 8);
             let end = 3 * made;
-            let k = answers::put_answers(text, n, &answers[..end], out, reports);
+            let k = answers::put_answers(rt, text, n, &answers[..end], out, reports);
             Taken {
                 records: made,
                 n: k.n,
                 on: k.on,
             }
         }
-        Batched::Refused(number) => refused(text, n, number),
+        Batched::Refused(number) => refused(rt, text, n, number),
     }
 }
 
 // The record at the front of the bytes, which has this number and is not for a list.
 fn alone(
+    rt: &impl Print,
     s: &mut [u64],
     out: &mut [u64],
     reports: &mut [u64],
@@ -131,7 +133,7 @@ fn alone(
         Next::Tick(answer, time) => {
             let ticked = tick(s, out, reports, answer, time);
             let m = put_ticked(text, n, ticked, reports, out);
-            one(text, m)
+            one(rt, text, m)
         }
         Next::Bad => Taken {
             records: 1,
@@ -148,6 +150,7 @@ fn alone(
 
 // The records at the front of the bytes, the first of which has this number: as many as make a list, or one.
 fn some(
+    rt: &impl Print,
     s: &mut [u64],
     out: &mut [u64],
     reports: &mut [u64],
@@ -165,14 +168,15 @@ fn some(
     let g = reading::gather(&mut rows, bytes);
     if 0 < g.rows {
         let end = 8 * g.rows;
-        return list(s, out, reports, text, n, &rows[..end]);
+        return list(rt, s, out, reports, text, n, &rows[..end]);
     }
     let next = g.next;
-    alone(s, out, reports, text, n, next, number)
+    alone(rt, s, out, reports, text, n, next, number)
 }
 
 // The calls of a block of records, the first of which has this number; whether to read on.
 fn records(
+    rt: &impl Print,
     s: &mut [u64],
     out: &mut [u64],
     reports: &mut [u64],
@@ -187,20 +191,37 @@ fn records(
     let mut at = 0;
     let mut n = 0;
     while at < input.len() {
-        let k = some(s, out, reports, text, n, &input[at..], number);
+        let k = some(rt, s, out, reports, text, n, &input[at..], number);
         n = k.n;
         if !k.on {
-            io::write_all(STDOUT_FILENO, &text[..n]);
+            let _ = rt.write_all(&text[..n]);
             return false;
         }
         number += k.records as u64;
         at += 44 * k.records;
     }
-    io::write_all(STDOUT_FILENO, &text[..n])
+    rt.write_all(&text[..n]).is_ok()
+}
+
+// Reads until the list is full, the input ends or a read fails; how many bytes were read.
+fn read_full(from: &mut impl Read, to: &mut [u8]) -> usize
+    ensures { result ≤ length to.new }
+{
+    let mut done = 0;
+    while done < to.len() {
+        let n = from.read(&mut to[done..]).unwrap_or(0);
+        if n == 0 {
+            break;
+        }
+        done += n;
+    }
+    done
 }
 
 // Reads a block and makes its calls; whether to read on.
 fn block(
+    rt: &impl Print,
+    from: &mut impl Read,
     s: &mut [u64],
     out: &mut [u64],
     reports: &mut [u64],
@@ -211,21 +232,29 @@ fn block(
     requires in_bounds { (64 ≤ length s.old) × ((length out.old ≤ 4046) × (length reports.old ≤ 24)) }
     requires in_bounds_2 { (80000 ≤ length text.old) × ((length input.old ≤ 65516) × (blocks < 2 ^ 40)) }
 {
-    let got = io::read_full(STDIN_FILENO, input);
-    let on = records(s, out, reports, text, &input[..got], blocks * BLOCK + 1);
+    let got = read_full(from, input);
+    let on = records(rt, s, out, reports, text, &input[..got], blocks * BLOCK + 1);
     if got < input.len() {
         return false;
     }
     on
 }
 
-fn run(s: &mut [u64], out: &mut [u64], reports: &mut [u64], text: &mut [u8], input: &mut [u8])
+fn run(
+    rt: &impl Print,
+    from: &mut impl Read,
+    s: &mut [u64],
+    out: &mut [u64],
+    reports: &mut [u64],
+    text: &mut [u8],
+    input: &mut [u8],
+)
     requires in_bounds { (64 ≤ length s.old) × ((length out.old ≤ 4046) × (length reports.old ≤ 24)) }
     requires in_bounds_2 { (80000 ≤ length text.old) × (length input.old ≤ 65516) }
 {
     let mut blocks = 0;
     while blocks < BLOCKS {
-        if block(s, out, reports, text, input, blocks) {
+        if block(rt, from, s, out, reports, text, input, blocks) {
             blocks += 1;
         } else {
             return;
@@ -233,7 +262,7 @@ fn run(s: &mut [u64], out: &mut [u64], reports: &mut [u64], text: &mut [u8], inp
     }
 }
 
-fn main() {
+fn main(rt: HostRuntime) {
     let mut s = [0u64; 2240];
     let mut out = [0u64; 4046];
     let mut reports = [0u64; 24];
@@ -247,5 +276,13 @@ fn main() {
         D: 128,
     };
     setup::setup(&mut s, limits, 0);
-    run(&mut s, &mut out, &mut reports, &mut text, &mut input);
+    run(
+        &rt,
+        &mut rt.stdin(),
+        &mut s,
+        &mut out,
+        &mut reports,
+        &mut text,
+        &mut input,
+    );
 }
