@@ -27,7 +27,7 @@ fn of_repository(root: &Path, library: &str) -> PathBuf {
         fail(&format!(
             "There is no target/staticlib/lib{library}.a yet. Make the archives of the proved calls first, in the repository's root:\n\n    \
              bash support/made archive owned exports depth_exports json_exports\n\n\
-             The first time this proves the calls, which takes about seven minutes on two cores and shows its progress. Where the Rattle \
+             The first time this proves the calls, which takes minutes and shows its progress. Where the Rattle \
              kit with `rt` is not at hand, set {ARCHIVE} to archives that were made elsewhere (host/README.md)."
         ));
     }
