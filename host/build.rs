@@ -26,8 +26,8 @@ fn of_repository(root: &Path, library: &str) -> PathBuf {
     if !archive.is_file() {
         fail(&format!(
             "There is no target/staticlib/lib{library}.a yet. Make the archives of the proved calls first, in the repository's root:\n\n    \
-             rt staticlib owned && rt staticlib exports && rt staticlib depth_exports && rt staticlib json_exports\n\n\
-             The first time this proves the calls, which takes about seven minutes on two cores and shows its progress. Where the Rattle \
+             bash support/made archive owned exports depth_exports json_exports\n\n\
+             The first time this proves the calls, which takes minutes and shows its progress. Where the Rattle \
              kit with `rt` is not at hand, set {ARCHIVE} to archives that were made elsewhere (host/README.md)."
         ));
     }

@@ -17,9 +17,10 @@ class Missing(Exception):
 
 
 def sources():
-    """The time of the latest change below crates/."""
+    """The time of the latest change below crates/, but for what rt makes there."""
     yield (ROOT / "crates.txt").stat().st_mtime
-    for folder, _, names in os.walk(ROOT / "crates"):
+    for folder, folders, names in os.walk(ROOT / "crates"):
+        folders[:] = [name for name in folders if name != "out"]
         for name in names:
             yield os.stat(os.path.join(folder, name)).st_mtime
 
@@ -45,9 +46,7 @@ def program():
     since = max(sources())
     if not fresh(made, since):
         why = "the program is older than a source" if made.exists() else "there is no program yet, and to prove it takes minutes"
-        run(["rt", "check", "replay"], ROOT, why)
-        # rt leaves the file as it is where no source has other contents
-        os.utime(made)
+        run(["bash", "support/made", "program", "replay"], ROOT, why)
     return str(made)
 
 
@@ -57,6 +56,6 @@ def readings():
     for name in ARCHIVES:
         made = TARGET / f"staticlib/lib{name}.a"
         if not fresh(made, since):
-            run(["rt", "staticlib", name], ROOT, "a page needs the calls of the host crate, and to prove them takes minutes the first time")
+            run(["bash", "support/made", "archive", name], ROOT, "a page needs the calls of the host crate, and to prove them takes minutes the first time")
     run(["cargo", "build", "--quiet", "--offline", "--locked", "--target-dir", "target", "--example", "readings"], ROOT / "host", None)
     return str(ROOT / "host/target/debug/examples/readings")

@@ -1,4 +1,4 @@
-/* The calls of a market's merge for hosts in C and C++, over libexports.a (`rt staticlib exports`; x86-64).
+/* The calls of a market's merge for hosts in C and C++, over libexports.a (`bash support/made archive exports`; x86-64).
  *
  * A store is a list of 64-bit words that the host owns; docs/LAYOUT.md says what each word means. Every call takes any words: a
  * store that is not sound is refused and stays as it was. The words are in the machine's byte order (little-endian on x86-64)

@@ -1,4 +1,4 @@
-/* The price levels of a token for hosts in C and C++, over libdepth_exports.a (`rt staticlib depth_exports`; x86-64).
+/* The price levels of a token for hosts in C and C++, over libdepth_exports.a (`bash support/made archive depth_exports`; x86-64).
  *
  * A side is an array of 512 prices, an array of 512 sizes and a count, all the host's own. The level farthest out lies first and the
  * best last, at place count - 1: bids rise, asks fall. Places from the count on are free. A side of count 0 is empty, whatever its

@@ -1,4 +1,4 @@
-/* JSON messages to canonical bytes and keys, for hosts in C and C++, over libjson_exports.a (`rt staticlib json_exports`; x86-64).
+/* JSON messages to canonical bytes and keys, for hosts in C and C++, over libjson_exports.a (`bash support/made archive json_exports`; x86-64).
  *
  * A message is one JSON text (RFC 8259) of up to 32,768 bytes. Its canonical bytes are those that the original's `canonical` writes: two
  * messages have the same bytes exactly when they hold the same content. The order of an object's keys, white space and escapes do not

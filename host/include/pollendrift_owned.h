@@ -9,7 +9,7 @@
  *
  * merge_setup, merge_view and merge_key are in libexports.a alone, so a program links both archives, in either order (x86-64):
  *
- *     rt staticlib owned && rt staticlib exports
+ *     bash support/made archive owned exports
  *     cc -I host/include PROGRAM.c target/staticlib/libowned.a target/staticlib/libexports.a
  */
 #ifndef POLLENDRIFT_OWNED_H
