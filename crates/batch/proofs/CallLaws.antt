@@ -1,8 +1,8 @@
 -- The words of a call, and what it leaves in lists that it does not take.
+use Rattle.std.specs.Prelude.{Option, None, Some, Result, Ok, Err}
 use mathlib.Core.Path.{◌≡◌, refl, sym, ap, ◌∙◌, subst}
 use mathlib.Core.List.{List, [], ◌∷◌}
 use mathlib.Core.Logic.{◌≢◌}
-use mathlib.Core.Option.{Option, none, some}
 use mathlib.Core.Bool.{Bool, cond}
 use Prim.Native.Nat.{ℕ, ◌+◌, ◌≤◌, ◌<◌}
 use native.Mathlib.Omega.{arith}
@@ -11,12 +11,9 @@ use lib.Dec.{eqb}
 use borrow.Author.Tests.{lt-ltb, ne_eqb}
 use Rattle.rules.specs.declared.Applied.{Applied}
 use Rattle.rules.specs.declared.Expired.{Expired}
-use Rattle.rules.specs.declared.Changed.{Changed}
-use Rattle.rules.specs.declared.Changed.TheVariants as Changed
 use Rattle.rules.specs.declared.Lost.{Lost}
-use Rattle.rules.specs.declared.Lost.TheVariants as Lost
 use Rattle.rules.specs.declared.Step.{Step}
-use Rattle.rules.specs.declared.Step.TheVariants as Step
+use Rattle.rules.specs.declared.refusal.Refusal.{Refusal}
 use Rattle.rules.specs.Lists.{maybe}
 use Rattle.rules.specs.Quantities.{key}
 use Rattle.rules.specs.Lines.{Market}
@@ -39,43 +36,43 @@ use Rattle.batch.specs.Turn.{outcome, Calls, Does, Reasons}
 -- ---- the call of a number
 
 module _ (w : List ℕ) (m : Market) (room reports : ℕ) where
-  call-1 : get_or w 0 0 ≡ 1 → call_in w m room reports ≡ some (Subscribe (get_or w 1 0) (get_or w 2 0) (get_or w 6 0))
+  call-1 : get_or w 0 0 ≡ 1 → call_in w m room reports ≡ Some (Subscribe (get_or w 1 0) (get_or w 2 0) (get_or w 6 0))
   unfolding call_in
   call-1 e = rw e refl
 
-  call-2 : get_or w 0 0 ≡ 2 → call_in w m room reports ≡ some (Snapshot (get_or w 1 0) (get_or w 2 0) (get_or w 5 0) (get_or w 6 0) room)
+  call-2 : get_or w 0 0 ≡ 2 → call_in w m room reports ≡ Some (Snapshot (get_or w 1 0) (get_or w 2 0) (get_or w 5 0) (get_or w 6 0) room)
   unfolding call_in
   call-2 e = rw e refl
 
-  call-3 : get_or w 0 0 ≡ 3 → call_in w m room reports ≡ some (BookEvent (get_or w 1 0) (key (get_or w 3 0) (get_or w 4 0)) (get_or w 5 0) (get_or w 6 0) room)
+  call-3 : get_or w 0 0 ≡ 3 → call_in w m room reports ≡ Some (BookEvent (get_or w 1 0) (key (get_or w 3 0) (get_or w 4 0)) (get_or w 5 0) (get_or w 6 0) room)
   unfolding call_in
   call-3 e = rw e refl
 
-  call-4 : get_or w 0 0 ≡ 4 → call_in w m room reports ≡ some (Print (get_or w 1 0) (key (get_or w 3 0) (get_or w 4 0)) (get_or w 5 0) (get_or w 6 0) room)
+  call-4 : get_or w 0 0 ≡ 4 → call_in w m room reports ≡ Some (Print (get_or w 1 0) (key (get_or w 3 0) (get_or w 4 0)) (get_or w 5 0) (get_or w 6 0) room)
   unfolding call_in
   call-4 e = rw e refl
 
-  call-5 : get_or w 0 0 ≡ 5 → call_in w m room reports ≡ some (Drop (get_or w 1 0) (get_or w 6 0) room)
+  call-5 : get_or w 0 0 ≡ 5 → call_in w m room reports ≡ Some (Drop (get_or w 1 0) (get_or w 6 0) room)
   unfolding call_in
   call-5 e = rw e refl
 
-  call-6 : get_or w 0 0 ≡ 6 → call_in w m room reports ≡ some (Promote (get_or w 6 0) room)
+  call-6 : get_or w 0 0 ≡ 6 → call_in w m room reports ≡ Some (Promote (get_or w 6 0) room)
   unfolding call_in
   call-6 e = rw e refl
 
-  call-7 : get_or w 0 0 ≡ 7 → call_in w m room reports ≡ some (Reset (get_or w 6 0))
+  call-7 : get_or w 0 0 ≡ 7 → call_in w m room reports ≡ Some (Reset (get_or w 6 0))
   unfolding call_in
   call-7 e = rw e refl
 
-  call-8 : get_or w 0 0 ≡ 8 → call_in w m room reports ≡ some (Tick (bits (length m.lines) (get_or w 7 0)) (get_or w 6 0) room reports)
+  call-8 : get_or w 0 0 ≡ 8 → call_in w m room reports ≡ Some (Tick (bits (length m.lines) (get_or w 7 0)) (get_or w 6 0) room reports)
   unfolding call_in
   call-8 e = rw e refl
 
-  pub call-0 : get_or w 0 0 ≡ 0 → call_in w m room reports ≡ none
+  pub call-0 : get_or w 0 0 ≡ 0 → call_in w m room reports ≡ None
   unfolding call_in
   call-0 e = rw e refl
 
-  pub call-9 : 9 ≤ get_or w 0 0 → call_in w m room reports ≡ none
+  pub call-9 : 9 ≤ get_or w 0 0 → call_in w m room reports ≡ None
   unfolding call_in
   call-9 h =
       let n = get_or w 0 0 in
@@ -87,7 +84,7 @@ module _ (w : List ℕ) (m : Market) (room reports : ℕ) where
   call-some b y h l =
       at 1 _ _ h (λ h₂. at 2 _ _ h₂ (λ h₃. at 3 _ _ h₃ (λ h₄. at 4 _ _ h₄ (λ h₅. at 5 _ _ h₅ (λ h₆. at 6 _ _ h₆ (λ h₇. at 7 _ _ h₇ (λ h₈. at 8 _ _ h₈ (λ h₉. absurd (omega arith)))))))))
     where
-      at : (i : ℕ) (x : Call) (o : Option Call) → i ≤ get_or w 0 0 → (i + 1 ≤ get_or w 0 0 → maybe b (λ z. y) o ≡ y) → maybe b (λ z. y) (cond (eqb (get_or w 0 0) i) (some x) o) ≡ y
+      at : (i : ℕ) (x : Call) (o : Option Call) → i ≤ get_or w 0 0 → (i + 1 ≤ get_or w 0 0 → maybe b (λ z. y) o ≡ y) → maybe b (λ z. y) (cond (eqb (get_or w 0 0) i) (Some x) o) ≡ y
       at i x o p f = by_cond (λ (o : Option Call). maybe b (λ z. y) o ≡ y) (eqb (get_or w 0 0) i) (λ e. refl) (λ e. let q : get_or w 0 0 ≢ i = eqb-false e in f (omega arith))
 
 -- ---- why a call is not done
@@ -115,24 +112,24 @@ abbrev records_of : Said → ℕ
 records_of (number n) = 0
 records_of (word a n m) = n
 
-step-reports : (r : Step) → reports_of (of_step r) ≡ 0
-step-reports (Step.Apply n) = refl
-step-reports Step.Duplicate = refl
-step-reports Step.Held = refl
-step-reports Step.Ignored = refl
-step-reports Step.Diverged = refl
-step-reports Step.Failed = refl
-step-reports (Step.Refused n) = refl
+step-reports : (r : Result Step Refusal) → reports_of (of_step r) ≡ 0
+step-reports (Ok (Step.Apply n)) = refl
+step-reports (Ok Step.Duplicate) = refl
+step-reports (Ok Step.Held) = refl
+step-reports (Ok Step.Ignored) = refl
+step-reports (Ok Step.Diverged) = refl
+step-reports (Ok Step.Failed) = refl
+step-reports (Err e) = refl
 
-lost-reports : (r : Lost) → reports_of (of_lost r) ≡ 0
-lost-reports Lost.Kept = refl
-lost-reports Lost.Gone = refl
-lost-reports (Lost.Rebuild n) = refl
-lost-reports (Lost.Refused n) = refl
+lost-reports : (r : Result Lost Refusal) → reports_of (of_lost r) ≡ 0
+lost-reports (Ok Lost.Kept) = refl
+lost-reports (Ok Lost.Gone) = refl
+lost-reports (Ok (Lost.Rebuild n)) = refl
+lost-reports (Err e) = refl
 
-changed-none : (r : Changed) → (records_of (of_changed r) ≡ 0) × (reports_of (of_changed r) ≡ 0)
-changed-none Changed.Done = (refl, refl)
-changed-none (Changed.Refused n) = (refl, refl)
+changed-none : (r : Result Unit Refusal) → (records_of (of_changed r) ≡ 0) × (reports_of (of_changed r) ≡ 0)
+changed-none (Ok u) = (refl, refl)
+changed-none (Err e) = (refl, refl)
 
 none-long : {A : Type 0} (xs : List A) → length xs ≡ 0 → xs ≡ []
 none-long [] e = refl
@@ -174,11 +171,11 @@ with-lists (did x rs k) a w w₁ r e v q =
 
 -- ---- from a call on a sound store to the words' call
 
-by : (w : List ℕ) (x : Call) (l : Lent) (a : Said) (l₁ : Lent) → call_in w (market_of l.store) (records l.out) (report_room l.reports) ≡ some x → Steps x l a l₁ → Calls w l a l₁
+by : (w : List ℕ) (x : Call) (l : Lent) (a : Said) (l₁ : Lent) → call_in w (market_of l.store) (records l.out) (report_room l.reports) ≡ Some x → Steps x l a l₁ → Calls w l a l₁
 by w x l a l₁ e r = subst (λ (y : Option Call). Answers (outcome y (market_of l.store)) l a l₁) (sym e) r
 
-module _ (w s v s₁ v₁ : List ℕ) (r : Step) (q : List ℕ) where
-  by-step : (x : Call) → call_in w (market_of s) (records v) (report_room q) ≡ some x → Steps x (lent s v) (of_step r) (lent s₁ v₁) → Calls w (lent_all s v q) (of_step r) (lent_all s₁ v₁ q)
+module _ (w s v s₁ v₁ : List ℕ) (r : Result Step Refusal) (q : List ℕ) where
+  by-step : (x : Call) → call_in w (market_of s) (records v) (report_room q) ≡ Some x → Steps x (lent s v) (of_step r) (lent s₁ v₁) → Calls w (lent_all s v q) (of_step r) (lent_all s₁ v₁ q)
   by-step x e d = by w x (lent_all s v q) (of_step r) (lent_all s₁ v₁ q) e (with-reports _ (of_step r) s v s₁ v₁ d (step-reports r) q)
 
   pub snapshots : get_or w 0 0 ≡ 2 → Steps (Snapshot (get_or w 1 0) (get_or w 2 0) (get_or w 5 0) (get_or w 6 0) (records v)) (lent s v) (of_step r) (lent s₁ v₁) → Calls w (lent_all s v q) (of_step r) (lent_all s₁ v₁ q)
@@ -190,8 +187,8 @@ module _ (w s v s₁ v₁ : List ℕ) (r : Step) (q : List ℕ) where
   pub prints : get_or w 0 0 ≡ 4 → Steps (Print (get_or w 1 0) (key (get_or w 3 0) (get_or w 4 0)) (get_or w 5 0) (get_or w 6 0) (records v)) (lent s v) (of_step r) (lent s₁ v₁) → Calls w (lent_all s v q) (of_step r) (lent_all s₁ v₁ q)
   prints e d = by-step _ (call-4 w (market_of s) (records v) (report_room q) e) d
 
-module _ (w s v s₁ v₁ : List ℕ) (r : Lost) (q : List ℕ) where
-  by-lost : (x : Call) → call_in w (market_of s) (records v) (report_room q) ≡ some x → Steps x (lent s v) (of_lost r) (lent s₁ v₁) → Calls w (lent_all s v q) (of_lost r) (lent_all s₁ v₁ q)
+module _ (w s v s₁ v₁ : List ℕ) (r : Result Lost Refusal) (q : List ℕ) where
+  by-lost : (x : Call) → call_in w (market_of s) (records v) (report_room q) ≡ Some x → Steps x (lent s v) (of_lost r) (lent s₁ v₁) → Calls w (lent_all s v q) (of_lost r) (lent_all s₁ v₁ q)
   by-lost x e d = by w x (lent_all s v q) (of_lost r) (lent_all s₁ v₁ q) e (with-reports _ (of_lost r) s v s₁ v₁ d (lost-reports r) q)
 
   pub drops : get_or w 0 0 ≡ 5 → Steps (Drop (get_or w 1 0) (get_or w 6 0) (records v)) (lent s v) (of_lost r) (lent s₁ v₁) → Calls w (lent_all s v q) (of_lost r) (lent_all s₁ v₁ q)
@@ -200,8 +197,8 @@ module _ (w s v s₁ v₁ : List ℕ) (r : Lost) (q : List ℕ) where
   pub promotes : get_or w 0 0 ≡ 6 → Steps (Promote (get_or w 6 0) (records v)) (lent s v) (of_lost r) (lent s₁ v₁) → Calls w (lent_all s v q) (of_lost r) (lent_all s₁ v₁ q)
   promotes e d = by-lost _ (call-6 w (market_of s) (records v) (report_room q) e) d
 
-module _ (w s s₁ : List ℕ) (r : Changed) (v q : List ℕ) where
-  by-changed : (x : Call) → call_in w (market_of s) (records v) (report_room q) ≡ some x → Steps x (alone s) (of_changed r) (alone s₁) → Calls w (lent_all s v q) (of_changed r) (lent_all s₁ v q)
+module _ (w s s₁ : List ℕ) (r : Result Unit Refusal) (v q : List ℕ) where
+  by-changed : (x : Call) → call_in w (market_of s) (records v) (report_room q) ≡ Some x → Steps x (alone s) (of_changed r) (alone s₁) → Calls w (lent_all s v q) (of_changed r) (lent_all s₁ v q)
   by-changed x e d = by w x (lent_all s v q) (of_changed r) (lent_all s₁ v q) e (with-lists _ (of_changed r) s s₁ d (changed-none r) v q)
 
   pub subscribes : get_or w 0 0 ≡ 1 → Steps (Subscribe (get_or w 1 0) (get_or w 2 0) (get_or w 6 0)) (alone s) (of_changed r) (alone s₁) → Calls w (lent_all s v q) (of_changed r) (lent_all s₁ v q)
@@ -217,7 +214,7 @@ ticks w l a l₁ views n k e b d =
     let m = market_of l.store in
     let c : bits (length m.lines) (get_or w 7 0) ≡ views = ap (λ (j : ℕ). bits j (get_or w 7 0)) (lines-count l.store ∙ sym k) ∙ sym b in
     by w (Tick views (get_or w 6 0) (records l.out) (report_room l.reports)) l a l₁
-    (call-8 w m (records l.out) (report_room l.reports) e ∙ ap (λ (z : List ℕ). some (Tick z (get_or w 6 0) (records l.out) (report_room l.reports))) c) d
+    (call-8 w m (records l.out) (report_room l.reports) e ∙ ap (λ (z : List ℕ). Some (Tick z (get_or w 6 0) (records l.out) (report_room l.reports))) c) d
 
 -- ---- the answer as three numbers
 
@@ -227,5 +224,5 @@ told w l a l₁ t d e = record { left = d.left; tells = subst (λ (y : Said). Te
 pub told_none : (w : List ℕ) (l : Lent) (a : Said) (l₁ : Lent) (t : Told) → Calls w l a l₁ → Tells a t.code t.count 0 × (t.reports ≡ 0) → Does w l t l₁
 told_none w l a l₁ t d e = told w l a l₁ t d (subst (λ (n : ℕ). Tells a t.code t.count n) (sym e.1) e.0)
 
-pub no_call : (w : List ℕ) (l : Lent) (t : Told) → call_in w (market_of l.store) (records l.out) (report_room l.reports) ≡ none → Tells (number 3) t.code t.count t.reports → Does w l t l
-no_call w l t e d = told w l (number 3) l t (subst (λ (y : Option Call). Answers (outcome y (market_of l.store)) l (number 3) l) (sym e) (record { said = refl; left = refl })) d
+pub no_call : (w : List ℕ) (l : Lent) (t : Told) → call_in w (market_of l.store) (records l.out) (report_room l.reports) ≡ None → Tells (number 3) t.code t.count 0 × (t.reports ≡ 0) → Does w l t l
+no_call w l t e d = told_none w l (number 3) l t (subst (λ (y : Option Call). Answers (outcome y (market_of l.store)) l (number 3) l) (sym e) (record { said = refl; left = refl })) d

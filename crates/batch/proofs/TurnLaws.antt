@@ -1,8 +1,8 @@
 -- One call more of a list: what stands in the lists then.
+use Rattle.std.specs.Prelude.{Option, None, Some}
 use mathlib.Core.Path.{◌≡◌, refl, sym, ap, ◌∙◌, subst}
 use mathlib.Core.List.{List, [], ◌∷◌, ◌++◌, append_assoc, append-nil}
-use mathlib.Core.Option.{Option, none, some}
-use mathlib.Core.Bool.{Bool, true, false, cond}
+use mathlib.Core.Bool.{Bool, cond}
 use Prim.Native.Nat.{ℕ, ◌+◌, ◌-◌, ◌*◌, ◌/◌, ◌≤◌}
 use native.Mathlib.Omega.{arith}
 use lib.ListN.{length, take, drop, length-append, length-drop, take-append-drop, drop_of_length-le}
@@ -14,7 +14,6 @@ use Rattle.rules.specs.Lines.{Market}
 use Rattle.rules.specs.Calls.{Answer, done, apply, duplicate, held, ignored, diverged, failed, kept, gone, rebuild, Outcome, refused, did}
 use Rattle.rules.specs.Refusals.{Call}
 use Rattle.rules.specs.Answers.{Said, number, word, said_by}
-use Rattle.rules.proofs.Tests.{ff≢tt}
 use Rattle.words.specs.Words.{part, back}
 use Rattle.words.proofs.Parts.{part_length, length_back}
 use Rattle.store.specs.Store.{market_of, Sound}
@@ -26,10 +25,9 @@ use Rattle.market_tick.specs.Turns.{lent_all}
 use Rattle.steps.specs.Steps.{records, report_room}
 use Rattle.codes.specs.declared.Told.{Told}
 use Rattle.codes.specs.Told.{code_of, said_words, Tells}
-use Rattle.batch.specs.declared.Batched.TheVariants as Batched
 use Rattle.batch.specs.declared.Stop.TheVariants as Stop
 use Rattle.batch.specs.declared.Counts.{Counts}
-use Rattle.batch.specs.Batch.{call_in, Ran, after, after_call, next, Lists, lists, room_in, answers_words}
+use Rattle.batch.specs.Batch.{call_in, Ran, after, after_call, next, Lists, lists, room_in, answers_words, ended}
 use Rattle.batch.specs.Turn.{outcome, outcome_in, Does, Stands, Went, Turns}
 
 -- ---- lists of words that grow at their end
@@ -128,7 +126,7 @@ module _ (k : Ran) (b : Lists) (c : Counts) (now : Lists) (h : Stands k b c now)
       let l₃ = reports-length (k.reports ++ rs) in
       record {
         leaves = λ s. record {
-          answered = λ i. Batched.Did (q₁ i) (q₂ i) (q₃ i) s;
+          answered = λ i. ended (q₁ i) (q₂ i) (q₃ i) s;
           market = g.market;
           sound = g.sound;
           size = g.size ∙ (h.leaves Stop.AllDone).size;
@@ -146,8 +144,8 @@ module _ (k : Ran) (b : Lists) (c : Counts) (now : Lists) (h : Stands k b c now)
 -- ---- the next call is the one that was made on what is left
 
 after-call : (o : Option Call) (k : Ran) → after_call o k ≡ after (outcome o k.market) k
-after-call none k = refl
-after-call (some x) k = refl
+after-call None k = refl
+after-call (Some x) k = refl
 
 -- what is left of the lists is lent to a call
 abbrev pub rest : List ℕ → List ℕ → List ℕ → Counts → Lent
@@ -168,7 +166,7 @@ next_is w k b c s v q z h l =
     let e₂ : length b.out / 7 - length k.out ≡ records (part (7 * c.records) (length v) v) = omega arith in
     let e₃ : length b.reports / 3 - length k.reports ≡ report_room (part (3 * c.reports) (length q) q) = omega arith in
     let x : Option Call = call_in w k.market (length b.out / 7 - length k.out) (length b.reports / 3 - length k.reports) in
-    ap (λ (t : Bool). cond t (after_call x k) none) (lt-ltb (length k.answers) (length b.answers / 3) (omega arith))
+    ap (λ (t : Bool). cond t (after_call x k) None) (lt-ltb (length k.answers) (length b.answers / 3) (omega arith))
     ∙ after-call x k
     ∙ (λ i. after (outcome (call_in w (m i) (e₂ i) (e₃ i)) (m i)) k)
 
@@ -186,15 +184,9 @@ code-some kept = omega arith
 code-some gone = omega arith
 code-some rebuild = omega arith
 
--- the counts of a list that ends here, that was answered a refusal, that did a call
-abbrev ended : Counts → Counts
-ended c = record { calls = c.calls; records = c.records; reports = c.reports; stopped = true }
-
-abbrev refused_one : Counts → Counts
-refused_one c = record { calls = c.calls + 1; records = c.records; reports = c.reports; stopped = false }
-
-abbrev did_one : Counts → Told → Counts
-did_one c t = record { calls = c.calls + 1; records = c.records + t.count; reports = c.reports + t.reports; stopped = false }
+-- the counts after so many records and reports more
+abbrev more : Counts → (records reports : ℕ) → Counts
+more c records reports = record { calls = c.calls + 1; records = c.records + records; reports = c.reports + reports }
 
 module _ (w : List ℕ) (c : Counts) (s v q z s₁ v₁ q₁ : List ℕ) (t : Told) (d : Does w (rest s v q c) t (lent_all s₁ v₁ q₁)) where
   abbrev o₀ : Outcome
@@ -214,25 +206,30 @@ module _ (w : List ℕ) (c : Counts) (s v q z s₁ v₁ q₁ : List ℕ) (t : To
     reports-size : length reports₁ ≡ length q
     reports-size = length_back (3 * c.reports) (length q) q₁ q (record { kept = lq ∙ part_length (3 * c.reports) (length q) q (omega arith); start = fq; inside = omega arith })
 
-    -- a call's counts fit
-    pub count_fits : (t.code ≡ 0 → ⊥) → 7 * (c.records + t.count) ≤ length v
-    count_fits n = go o₀ d.left d.tells
+    -- n is how many records the call put out: a refusal's count is its number
+    abbrev PutOut : ℕ → Type 0
+    PutOut n = (t.code ≡ 0 → n ≡ 0) × ((t.code ≡ 0 → ⊥) → n ≡ t.count)
+
+    pub records_fit : (n : ℕ) → PutOut n → 7 * (c.records + n) ≤ length v
+    records_fit n h = go o₀ d.left d.tells
       where
-        go : (o : Outcome) → Market.Leaves o (rest s v q c) (lent_all s₁ v₁ q₁) → Tells (said_by o) t.code t.count t.reports → 7 * (c.records + t.count) ≤ length v
-        go (refused x) f e = let g = e.words in let p : 0 ≡ t.code = cc in absurd (n (sym p))
+        go : (o : Outcome) → Market.Leaves o (rest s v q c) (lent_all s₁ v₁ q₁) → Tells (said_by o) t.code t.count t.reports → 7 * (c.records + n) ≤ length v
+        go (refused x) f e = let g = e.words in let p : 0 ≡ t.code = cc in omega (arith, h.0 (sym p))
         go (did a rs k) f e =
             let g = e.words in
+            let i : code_of a ≡ t.code = cc in
+            let j = code-some a in
             let p : length k.out ≡ t.count = cc in
             let y = over-fits (records_words k.out) (part (7 * c.records) (length v) v) v₁ f.out lv in
             let x = records-length k.out in
             let m = part_length (7 * c.records) (length v) v (omega arith) in
-            omega arith
+            omega (arith, h.1 (λ z. omega arith))
 
-    pub reports-fit : (t.code ≡ 0 → ⊥) → 3 * (c.reports + t.reports) ≤ length q
-    reports-fit n = go o₀ d.left d.tells
+    pub reports_fit : 3 * (c.reports + t.reports) ≤ length q
+    reports_fit = go o₀ d.left d.tells
       where
         go : (o : Outcome) → Market.Leaves o (rest s v q c) (lent_all s₁ v₁ q₁) → Tells (said_by o) t.code t.count t.reports → 3 * (c.reports + t.reports) ≤ length q
-        go (refused x) f e = let g = e.words in let p : 0 ≡ t.code = cc in absurd (n (sym p))
+        go (refused x) f e = let g = e.words in let p : 0 ≡ t.reports = cc in omega arith
         go (did a rs k) f e =
             let g = e.words in
             let p : length rs ≡ t.reports = cc in
@@ -242,12 +239,11 @@ module _ (w : List ℕ) (c : Counts) (s v q z s₁ v₁ q₁ : List ℕ) (t : To
             omega arith
 
     -- a call without room, or no call: nothing changes
-    pub turn-stops : t.code ≡ 0 → t.count ≡ 3 → 3 * c.calls + 3 ≤ length z
-        → Turns w (lists s v q z) c (lists s₁ out₁ reports₁ z) (ended c)
+    pub turn-stops : t.code ≡ 0 → t.count ≡ 3 → 3 * c.calls + 3 ≤ length z → Turns w (lists s v q z) c (lists s₁ out₁ reports₁ z) None
     turn-stops e f l =
         record {
-          went = λ k b h. subst (λ (x : Option Ran). Went x k b (ended c) (lists s₁ out₁ reports₁ z)) (sym (next_is w k b c s v q z h l)) (go k b h o₀ d.left d.tells);
-          counted = λ p. absurd (ff≢tt p refl);
+          went = λ k b h. subst (λ (x : Option Ran). Went x k b c None (lists s₁ out₁ reports₁ z)) (sym (next_is w k b c s v q z h l)) (go k b h o₀ d.left d.tells);
+          counted = tt;
         }
       where
         same : lent_all s₁ v₁ q₁ ≡ rest s v q c → lists s v q z ≡ (lists s₁ out₁ reports₁ z)
@@ -259,76 +255,76 @@ module _ (w : List ℕ) (c : Counts) (s v q z s₁ v₁ q₁ : List ℕ) (t : To
             let eq : reports₁ ≡ q = ap (λ (x : Lent). back r (length q) x.reports q) p ∙ tail-over r [] q ∙ take-append-drop r q in
             (λ i. lists (sym es i) (sym ev i) (sym eq i) z)
 
-        go : (k : Ran) (b : Lists) → Stands k b c (lists s v q z) → (o : Outcome) → Market.Leaves o (rest s v q c) (lent_all s₁ v₁ q₁) → Tells (said_by o) t.code t.count t.reports → Went (after o k) k b (ended c) (lists s₁ out₁ reports₁ z)
+        go : (k : Ran) (b : Lists) → Stands k b c (lists s v q z) → (o : Outcome) → Market.Leaves o (rest s v q c) (lent_all s₁ v₁ q₁) → Tells (said_by o) t.code t.count t.reports → Went (after o k) k b c None (lists s₁ out₁ reports₁ z)
         go k b h (refused n) left tells =
             let g = tells.words in
             let p : n ≡ t.count = cc in
-            rw (eq-eqb n 3 (p ∙ f))
-            (refl, subst (λ (x : Lists). Stands k b (ended c) x) (same left) (record { leaves = h.leaves; out_size = h.out_size; reports_size = h.reports_size; answers_size = h.answers_size; out_fits = h.out_fits; reports_fit = h.reports_fit }))
+            rw (eq-eqb n 3 (p ∙ f)) (subst (λ (x : Lists). Stands k b c x) (same left) h)
         go k b h (did a rs y) left tells = let g = tells.words in let p : code_of a ≡ t.code = cc in let x = code-some a in absurd (omega arith)
 
-    module _ (z₁ : List ℕ) (ez : z₁ ≡ over_at (3 * c.calls) (t.code ∷ t.count ∷ t.reports ∷ []) z) (lz : length z₁ ≡ length z) (l : 3 * c.calls + 3 ≤ length z) where
-      -- another refusal is an answer
-      pub turn-refuses : t.code ≡ 0 → (t.count ≡ 3 → ⊥) → Turns w (lists s v q z) c (lists s₁ out₁ reports₁ z₁) (refused_one c)
-      unfolding records_words reports_words
-      turn-refuses e f =
-          record { went = λ k b h. subst (λ (x : Option Ran). Went x k b (refused_one c) (lists s₁ out₁ reports₁ z₁)) (sym (next_is w k b c s v q z h l)) (go k b h o₀ d.left d.tells); counted = λ p. refl }
-        where
-          go : (k : Ran) (b : Lists) → Stands k b c (lists s v q z) → (o : Outcome) → Market.Leaves o (rest s v q c) (lent_all s₁ v₁ q₁) → Tells (said_by o) t.code t.count t.reports → Went (after o k) k b (refused_one c) (lists s₁ out₁ reports₁ z₁)
-          go k b h (refused n) left tells =
-              let a = 7 * c.records in
-              let r = 3 * c.reports in
-              let g = tells.words in
-              let p : n ≡ t.count = cc in
-              let es : s₁ ≡ s = ap (λ (x : Lent). x.store) left in
-              rw (ne_eqb n 3 (λ x. f (sym p ∙ x))) (
-                refl,
-                subst (λ (x : Ran). Stands x b (refused_one c) (lists s₁ out₁ reports₁ z₁)) (λ i. record { market = k.market; out = append-nil k.out i; reports = append-nil k.reports i; answers = k.answers ++ (number n ∷ []) })
-                    (grown k b c (lists s v q z) h (lists s₁ out₁ reports₁ z₁) (refused_one c) k.market [] [] (number n)
-                    (record {
-                      market = ap market_of es ∙ (h.leaves Stop.AllDone).market;
-                      sound = subst Sound (sym es) (h.leaves Stop.AllDone).sound;
-                      size = ap length es;
-                      out = ap (λ (x : Lent). back a (length v) x.out v) left ∙ tail-over a [] v;
-                      reports = ap (λ (x : Lent). back r (length q) x.reports q) left ∙ tail-over r [] q;
-                      answers = ez ∙ ap (λ (x : List ℕ). over_at (3 * c.calls) x z) (sym g);
-                      out_size = out-size;
-                      reports_size = reports-size;
-                      answers_size = lz;
-                      calls = refl;
-                      record_count = omega arith;
-                      report_count = omega arith;
-                    })),
-              )
-          go k b h (did x rs y) left tells = let g = tells.words in let p : code_of x ≡ t.code = cc in let m = code-some x in absurd (omega arith)
-
-      -- the call was done
-      pub turn-goes : (t.code ≡ 0 → ⊥) → Turns w (lists s v q z) c (lists s₁ out₁ reports₁ z₁) (did_one c t)
-      turn-goes e =
-          record { went = λ k b h. subst (λ (x : Option Ran). Went x k b (did_one c t) (lists s₁ out₁ reports₁ z₁)) (sym (next_is w k b c s v q z h l)) (go k b h o₀ d.left d.tells); counted = λ p. refl }
-        where
-          go : (k : Ran) (b : Lists) → Stands k b c (lists s v q z) → (o : Outcome) → Market.Leaves o (rest s v q c) (lent_all s₁ v₁ q₁) → Tells (said_by o) t.code t.count t.reports → Went (after o k) k b (did_one c t) (lists s₁ out₁ reports₁ z₁)
-          go k b h (refused n) left tells = let g = tells.words in let p : 0 ≡ t.code = cc in absurd (e (sym p))
-          go k b h (did x rs y) left tells =
-              let a = 7 * c.records in
-              let r = 3 * c.reports in
-              let g = tells.words in
-              let n₂ : t.count ≡ length y.out = cc in
-              let n₃ : t.reports ≡ length rs = cc in (
-                refl,
-                grown k b c (lists s v q z) h (lists s₁ out₁ reports₁ z₁) (did_one c t) y.market y.out rs (said_by (did x rs y))
-                    (record {
-                      market = left.market;
-                      sound = left.sound;
-                      size = left.size;
-                      out = ap (λ (x : List ℕ). back a (length v) x v) left.out ∙ tail-over a (records_words y.out) v;
-                      reports = ap (λ (x : List ℕ). back r (length q) x q) left.reports ∙ tail-over r (reports_words rs) q;
-                      answers = ez ∙ ap (λ (x : List ℕ). over_at (3 * c.calls) x z) (sym g);
-                      out_size = out-size;
-                      reports_size = reports-size;
-                      answers_size = lz;
-                      calls = refl;
-                      record_count = ap (λ (n : ℕ). c.records + n) n₂;
-                      report_count = ap (λ (n : ℕ). c.reports + n) n₃;
-                    }),
-              )
+    -- another refusal is an answer, as a call that was done
+    pub turn-goes : (z₁ : List ℕ) → z₁ ≡ over_at (3 * c.calls) (t.code ∷ t.count ∷ t.reports ∷ []) z → length z₁ ≡ length z → 3 * c.calls + 3 ≤ length z
+        → (n : ℕ) → PutOut n → (t.code ≡ 0 → t.count ≡ 3 → ⊥) → Turns w (lists s v q z) c (lists s₁ out₁ reports₁ z₁) (Some (more c n t.reports))
+    unfolding records_words reports_words
+    turn-goes z₁ ez lz l n e f =
+        record {
+          went = λ k b h.
+              subst (λ (x : Option Ran). Went x k b c (Some (more c n t.reports)) (lists s₁ out₁ reports₁ z₁)) (sym (next_is w k b c s v q z h l)) (go k b h o₀ d.left d.tells);
+          counted = refl;
+        }
+      where
+        go : (k : Ran) (b : Lists) → Stands k b c (lists s v q z) → (o : Outcome) → Market.Leaves o (rest s v q c) (lent_all s₁ v₁ q₁) → Tells (said_by o) t.code t.count t.reports → Went (after o k) k b c (Some (more c n t.reports)) (lists s₁ out₁ reports₁ z₁)
+        go k b h (refused m) left tells =
+            let a = 7 * c.records in
+            let r = 3 * c.reports in
+            let g = tells.words in
+            let p : m ≡ t.count = cc in
+            let code : t.code ≡ 0 = cc in
+            let none : n ≡ 0 = e.0 code in
+            let y : t.reports ≡ 0 = cc in
+            let es : s₁ ≡ s = ap (λ (x : Lent). x.store) left in
+            rw (ne_eqb m 3 (λ x. f code (sym p ∙ x))) (
+              refl,
+              subst (λ (x : Ran). Stands x b (more c n t.reports) (lists s₁ out₁ reports₁ z₁)) (λ i. record { market = k.market; out = append-nil k.out i; reports = append-nil k.reports i; answers = k.answers ++ (number m ∷ []) })
+                  (grown k b c (lists s v q z) h (lists s₁ out₁ reports₁ z₁) (more c n t.reports) k.market [] [] (number m)
+                  (record {
+                    market = ap market_of es ∙ (h.leaves Stop.AllDone).market;
+                    sound = subst Sound (sym es) (h.leaves Stop.AllDone).sound;
+                    size = ap length es;
+                    out = ap (λ (x : Lent). back a (length v) x.out v) left ∙ tail-over a [] v;
+                    reports = ap (λ (x : Lent). back r (length q) x.reports q) left ∙ tail-over r [] q;
+                    answers = ez ∙ ap (λ (x : List ℕ). over_at (3 * c.calls) x z) (sym g);
+                    out_size = out-size;
+                    reports_size = reports-size;
+                    answers_size = lz;
+                    calls = refl;
+                    record_count = omega arith;
+                    report_count = omega arith;
+                  })),
+            )
+        go k b h (did x rs y) left tells =
+            let a = 7 * c.records in
+            let r = 3 * c.reports in
+            let g = tells.words in
+            let p : code_of x ≡ t.code = cc in
+            let m = code-some x in
+            let n₁ : n ≡ t.count = e.1 (λ z. omega arith) in
+            let n₂ : t.count ≡ length y.out = cc in
+            let n₃ : t.reports ≡ length rs = cc in (
+              refl,
+              grown k b c (lists s v q z) h (lists s₁ out₁ reports₁ z₁) (more c n t.reports) y.market y.out rs (said_by (did x rs y))
+                  (record {
+                    market = left.market;
+                    sound = left.sound;
+                    size = left.size;
+                    out = ap (λ (x : List ℕ). back a (length v) x v) left.out ∙ tail-over a (records_words y.out) v;
+                    reports = ap (λ (x : List ℕ). back r (length q) x q) left.reports ∙ tail-over r (reports_words rs) q;
+                    answers = ez ∙ ap (λ (x : List ℕ). over_at (3 * c.calls) x z) (sym g);
+                    out_size = out-size;
+                    reports_size = reports-size;
+                    answers_size = lz;
+                    calls = refl;
+                    record_count = omega arith;
+                    report_count = omega arith;
+                  }),
+            )

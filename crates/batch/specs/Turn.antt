@@ -1,6 +1,5 @@
 -- One call of a list, and a list under way.
-use Rattle.std.specs.Prelude.{◌≡◌, List, true, false, ℕ, ◌+◌, ◌*◌, ◌≤◌, ◌<◌, length, get_or}
-use Rattle.std.proofs.Math.Option.{Option, none, some}
+use Rattle.std.specs.Prelude.{Option, None, Some, ◌≡◌, List, true, false, ℕ, ◌+◌, ◌*◌, ◌≤◌, ◌<◌, length, get_or}
 use Rattle.rules.specs.Lines.{Market}
 use Rattle.rules.specs.Calls.{Outcome, refused}
 use Rattle.rules.specs.Refusals.{Call, step}
@@ -11,16 +10,14 @@ use Rattle.market.specs.Lent.{Lent, Answers}
 use Rattle.steps.specs.Steps.{records, report_room}
 use Rattle.codes.specs.declared.Told.{Told}
 use Rattle.codes.specs.Told.{Tells}
-use Rattle.batch.specs.declared.Batched.{Batched}
-use Rattle.batch.specs.declared.Batched.TheVariants as Batched
 use Rattle.batch.specs.declared.Counts.{Counts}
 use Rattle.batch.specs.declared.Stop.{Stop}
-use Rattle.batch.specs.Batch.{call_in, Ran, Room, next, why, Lists, room_in, Leaves}
+use Rattle.batch.specs.Batch.{call_in, Ran, Room, next, why, Lists, room_in, BatchSaid, ended, Leaves}
 
 -- words that are no call end the list as a call without room does
 abbrev pub outcome : Option Call → Market → Outcome
-outcome none m = refused 3
-outcome (some x) m = step x m
+outcome None m = refused 3
+outcome (Some x) m = step x m
 
 -- what the call of the words w comes to on the lent lists
 abbrev pub outcome_in : List ℕ → Lent → Outcome
@@ -40,8 +37,8 @@ Reasons n s = (r : Room) (w : List ℕ) (k : Ran) → get_or w 0 0 ≡ n → len
 
 -- ---- a list under way
 
-abbrev pub did_so : Counts → Stop → Batched
-did_so c s = Batched.Did c.calls c.records c.reports s
+abbrev pub did_so : Counts → Stop → BatchSaid
+did_so c s = ended c.calls c.records c.reports s
 
 -- what was done stands in the lists, and is counted, whatever ends the list
 pub record Stands (k : Ran) (before : Lists) (c : Counts) (now : Lists) : Type 0 where
@@ -52,15 +49,22 @@ pub record Stands (k : Ran) (before : Lists) (c : Counts) (now : Lists) : Type 0
   pub out_fits : 7 * c.records ≤ length before.out
   pub reports_fit : 3 * c.reports ≤ length before.reports
 
--- after one call more, or before one that was not done
-abbrev pub Went : Option Ran → Ran → Lists → Counts → Lists → Type 0
-Went none k before c now = (c.stopped ≡ true) × Stands k before c now
-Went (some k') k before c now = (c.stopped ≡ false) × Stands k' before c now
+-- before a call that was not done, or after one call more
+abbrev pub Went : Option Ran → Ran → Lists → Counts → Option Counts → Lists → Type 0
+Went None k before c None now = Stands k before c now
+Went None k before c (Some c') now = ⊥
+Went (Some k') k before c None now = ⊥
+Went (Some k') k before c (Some c') now = (c'.calls ≡ c.calls + 1) × Stands k' before c' now
+
+-- a call that was done is counted
+abbrev pub Counted : Counts → Option Counts → Type 0
+Counted c None = Unit {0}
+Counted c (Some c') = c'.calls ≡ c.calls + 1
 
 -- the call w was tried, whatever list was under way
-pub record Turns (w : List ℕ) (now : Lists) (c : Counts) (now' : Lists) (c' : Counts) : Type 0 where
-  pub went : (k : Ran) (before : Lists) → Stands k before c now → Went (next (room_in before) w k) k before c' now'
-  pub counted : c'.stopped ≡ false → c'.calls ≡ c.calls + 1
+pub record Turns (w : List ℕ) (now : Lists) (c : Counts) (now' : Lists) (c' : Option Counts) : Type 0 where
+  pub went : (k : Ran) (before : Lists) → Stands k before c now → Went (next (room_in before) w k) k before c c' now'
+  pub counted : Counted c c'
 
 -- eight words on a sound store, and room for an answer
 pub record TurnRoom (w : List ℕ) (now : Lists) (c : Counts) : Type 0 where

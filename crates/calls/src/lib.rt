@@ -8,27 +8,30 @@ ghost use Rattle.market_tick.specs.Turns.{lent_all};
 ghost use Rattle.steps.specs.Steps.{records, report_room};
 ghost use Rattle.promise.specs.Meets.{Promise, of_call, says};
 
-use rules::{Changed, EventKey, Lost, Step, Ticked};
+use rules::{EventKey, Lost, Refusal, Step, Ticked};
 
 // A connection subscribes: its delivered counts go, and its line becomes Waiting, empty, since t, with this limit, 1 to H.
-pub fn subscribe(s: &mut [u64], conn: u64, limit: u64, t: u64) -> Changed
+pub fn subscribe(s: &mut [u64], conn: u64, limit: u64, t: u64) -> Result<(), Refusal>
     ensures { Promise (of_call (Subscribe conn limit t)) (alone s.old) (says (of_changed result)) (alone s.new) }
 {
-    if sound::is_sound(s) {
-        return steps::subscribe(s, conn, limit, t);
-    }
-    Changed::Refused(1)
+    sound::check(s)?;
+    steps::subscribe(s, conn, limit, t)
 }
 
 // A connection sends a snapshot of a token, 0 or 1.
-pub fn snapshot(s: &mut [u64], out: &mut [u64], conn: u64, token: u64, message: u64, t: u64) -> Step
+pub fn snapshot(
+    s: &mut [u64],
+    out: &mut [u64],
+    conn: u64,
+    token: u64,
+    message: u64,
+    t: u64,
+) -> Result<Step, Refusal>
     ensures { Promise (of_call (Snapshot conn token message t (records out.old)))
         (lent s.old out.old) (says (of_step result)) (lent s.new out.new) }
 {
-    if sound::is_sound(s) {
-        return steps::snapshot(s, out, conn, token, message, t);
-    }
-    Step::Refused(1)
+    sound::check(s)?;
+    steps::snapshot(s, out, conn, token, message, t)
 }
 
 // A connection sends a book event.
@@ -39,68 +42,69 @@ pub fn book_event(
     key: EventKey,
     message: u64,
     t: u64,
-) -> Step
+) -> Result<Step, Refusal>
     ensures { Promise (of_call (BookEvent conn key message t (records out.old)))
         (lent s.old out.old) (says (of_step result)) (lent s.new out.new) }
 {
-    if sound::is_sound(s) {
-        return steps::book_event(s, out, conn, key, message, t);
-    }
-    Step::Refused(1)
+    sound::check(s)?;
+    steps::book_event(s, out, conn, key, message, t)
 }
 
 // A connection sends a print: any message that is neither a snapshot nor a book event.
-pub fn other(s: &mut [u64], out: &mut [u64], conn: u64, key: EventKey, message: u64, t: u64) -> Step
+pub fn other(
+    s: &mut [u64],
+    out: &mut [u64],
+    conn: u64,
+    key: EventKey,
+    message: u64,
+    t: u64,
+) -> Result<Step, Refusal>
     ensures { Promise (of_call (Print conn key message t (records out.old)))
         (lent s.old out.old) (says (of_step result)) (lent s.new out.new) }
 {
-    if sound::is_sound(s) {
-        return steps::other(s, out, conn, key, message, t);
-    }
-    Step::Refused(1)
+    sound::check(s)?;
+    steps::other(s, out, conn, key, message, t)
 }
 
 // A connection is gone: its line goes, and if it was in line the others are promoted.
-pub fn drop_conn(s: &mut [u64], out: &mut [u64], conn: u64, t: u64) -> Lost
+pub fn drop_conn(s: &mut [u64], out: &mut [u64], conn: u64, t: u64) -> Result<Lost, Refusal>
     ensures { Promise (of_call (Drop conn t (records out.old)))
         (lent s.old out.old) (says (of_lost result)) (lent s.new out.new) }
 {
-    if sound::is_sound(s) {
-        return steps::drop_conn(s, out, conn, t);
-    }
-    Lost::Refused(1)
+    sound::check(s)?;
+    steps::drop_conn(s, out, conn, t)
 }
 
 // Where nobody is in line, the line with the best claim takes over.
-pub fn promote(s: &mut [u64], out: &mut [u64], t: u64) -> Lost
+pub fn promote(s: &mut [u64], out: &mut [u64], t: u64) -> Result<Lost, Refusal>
     ensures { Promise (of_call (Promote t (records out.old)))
         (lent s.old out.old) (says (of_lost result)) (lent s.new out.new) }
 {
-    if sound::is_sound(s) {
-        return steps::promote(s, out, t);
-    }
-    Lost::Refused(1)
+    sound::check(s)?;
+    steps::promote(s, out, t)
 }
 
 // Empties the log; every line but a Failed one becomes Pending, empty, since t.
-pub fn reset(s: &mut [u64], t: u64) -> Changed
+pub fn reset(s: &mut [u64], t: u64) -> Result<(), Refusal>
     ensures { Promise (of_call (Reset t)) (alone s.old) (says (of_changed result)) (alone s.new) }
 {
-    if sound::is_sound(s) {
-        return steps::reset(s, t);
-    }
-    Changed::Refused(1)
+    sound::check(s)?;
+    steps::reset(s, t)
 }
 
 // Time passes: old entries and print keys go, and each line has its turn.
-pub fn tick(s: &mut [u64], out: &mut [u64], reports: &mut [u64], answers: &[u64], t: u64) -> Ticked
+pub fn tick(
+    s: &mut [u64],
+    out: &mut [u64],
+    reports: &mut [u64],
+    answers: &[u64],
+    t: u64,
+) -> Result<Ticked, Refusal>
     ensures { Promise
         (of_call (Tick answers.now t (records out.old) (report_room reports.old)))
         (lent_all s.old out.old reports.old) (says (of_ticked result))
         (lent_all s.new out.new reports.new) }
 {
-    if sound::is_sound(s) {
-        return steps::tick(s, out, reports, answers, t);
-    }
-    Ticked::Refused(1)
+    sound::check(s)?;
+    steps::tick(s, out, reports, answers, t)
 }

@@ -1,5 +1,4 @@
 // What the lines are made of.
-
 pub fn say(rt: &impl Print, text: &[u8]) {
     let _ = rt.write_all(text);
 }
@@ -10,26 +9,21 @@ pub fn number(rt: &impl Print, x: u64) {
 }
 
 pub fn numbers(rt: &impl Print, w: &[u64]) {
-    let mut i = 0;
-    while i < w.len() {
-        number(rt, w[i]);
-        i += 1;
+    for x in w {
+        number(rt, *x);
     }
 }
 
 // The first n entries of a list, each of so many words, behind a name.
 pub fn entries(rt: &impl Print, name: &[u8], list: &[u64], n: usize, size: usize) {
-    let mut left = n;
-    let mut at = 0;
-    while left > 0 {
-        if list.len() - at < size {
+    let mut rest = list;
+    for _ in 0..n {
+        let Some((entry, behind)) = rest.split_at_checked(size) else {
             return;
-        }
-        let end = at + size;
+        };
         say(rt, b", ");
         say(rt, name);
-        numbers(rt, &list[at..end]);
-        at = end;
-        left -= 1;
+        numbers(rt, entry);
+        rest = behind;
     }
 }

@@ -17,8 +17,12 @@ use Rattle.json_text.proofs.OneValue.{val-only}
 use Rattle.json_text.proofs.Spaces.{ws-skips, skip-front}
 use Rattle.content.proofs.Fits.{val-fits}
 use Rattle.writing.specs.declared.Spot.{Spot}
-use Rattle.canonical.specs.declared.Answer.TheVariants as Answer
+use Rattle.std.specs.Prelude.{Err}
+use Rattle.json_check.specs.declared.Refusal.{Refusal}
+use Rattle.json_check.specs.Numbers.{number}
+use Rattle.canonical.specs.declared.NotWritten.{NotWritten}
 use Rattle.canonical.specs.Calls.{Message, WroteMessage, Answered, least, no_room, refused}
+use Rattle.canonical.specs.Calls.{judged as judged-low}
 use Rattle.writing.specs.Places.{Spans}
 use Rattle.writing.specs.Writing.{Writable, Wrote}
 use Rattle.writing.proofs.Parts.{past-val, place-past}
@@ -88,9 +92,15 @@ message-of (too_long h) e = absurd (omega arith)
 message-of (no_text h) e = absurd (omega arith)
 message-of (judged {v} h x f) e = record { short = h; value = v; text = x; faultless = f ∙ e }
 
+-- a text that a check refuses
+pub refused-text : (t out : List ℕ) (r : Refusal) → least ≤ length out → Judged t (number r) → Answered t out out (Err (NotWritten.Text r))
+refused-text t out Refusal.NoText h j = refused {e = NotWritten.Text Refusal.NoText} (judged-low h j (omega arith))
+refused-text t out Refusal.Number h j = refused {e = NotWritten.Text Refusal.Number} (judged-low h j (omega arith))
+refused-text t out Refusal.Depth h j = refused {e = NotWritten.Text Refusal.Depth} (judged-low h j (omega arith))
+
 -- an output that is too short is refused
-pub short_output : (t out : List ℕ) → length out < least → Answered t out out (Answer.Refused 3)
-short_output t out h = refused (no_room h)
+pub short_output : (t out : List ℕ) → length out < least → Answered t out out (Err NotWritten.ShortOutput)
+short_output t out h = refused {e = NotWritten.ShortOutput} (no_room h)
 
 zeros-at : (n p : ℕ) → get_or (zeros n) p 0 ≡ 0
 zeros-at zero p = refl

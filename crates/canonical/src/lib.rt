@@ -2,18 +2,53 @@
 #![tactic(auto)]
 
 ghost use Rattle.std.specs.Prelude.{◌≡◌, ℕ, ◌*◌, ◌≤◌, length, get_or};
-ghost use Rattle.canonical.specs.Calls.{Message, WroteMessage, Answered};
+ghost use Rattle.json_text.specs.Refusals.{longest};
+ghost use Rattle.canonical.specs.Calls.{Message, WroteMessage, Answered, number};
 
-use json_check::refusal;
+use json_check::{Refusal, check};
 use json_text::bytes::skip_ws;
+use std::error::Error;
+use std::fmt;
 use writing::write::write_value;
 
-// How many bytes were written, or the number of the refusal.
-#[derive(Clone, Copy)]
-pub enum Answer {
-    Written(usize),
-    Refused(u64),
+// Why nothing is written: the output is too short, or the text is refused.
+#[derive(Clone, Copy, Debug, PartialEq, Eq)]
+pub enum NotWritten {
+    ShortOutput,
+    Text(Refusal),
 }
+
+impl From<Refusal> for NotWritten {
+    ghost use Rattle.canonical.specs.declared.NotWritten.TheVariants.{Text};
+
+    ghost from_gives = { λ refusal e. e ≡ Text refusal };
+
+    fn from(refusal: Refusal) -> NotWritten {
+        NotWritten::Text(refusal)
+    }
+}
+
+impl NotWritten {
+    pub fn number(self) -> u64
+        ensures { result ≡ number self }
+    {
+        match self {
+            NotWritten::ShortOutput => 3,
+            NotWritten::Text(refusal) => refusal.number(),
+        }
+    }
+}
+
+impl fmt::Display for NotWritten {
+    fn fmt<W: fmt::Write>(&self, f: &mut fmt::Formatter<W>) -> fmt::Result {
+        match self {
+            NotWritten::ShortOutput => f.write_str("the output is too short"),
+            NotWritten::Text(refusal) => write!(f, "{refusal}"),
+        }
+    }
+}
+
+impl Error for NotWritten {}
 
 // Writes the canonical bytes of a message that is to be accepted; the lists of the work are lent.
 fn write_message(
@@ -34,39 +69,16 @@ fn write_message(
     last.pos
 }
 
-// The canonical bytes of a message of up to 512 bytes that is to be accepted, at the front of the output; how many they are.
-pub fn write_512(text: &[u8], out: &mut [u8]) -> usize
-    requires { Message text.now × (length text.now ≤ 512) × (5 * length text.now ≤ length out.old) }
+// The canonical bytes of a message of up to N bytes that is to be accepted, at the front of the output; how many they are. QUARTER is a
+// quarter of N: a member takes four bytes of the text or more.
+pub fn write_within<const N: usize, const QUARTER: usize>(text: &[u8], out: &mut [u8]) -> usize
+    requires { Message text.now × (length text.now ≤ N) × (N ≡ 4 * QUARTER) × (N ≤ longest) × (5 * length text.now ≤ length out.old) }
     ensures { WroteMessage text.now out.old out.new result }
 {
-    let mut ends = [0u16; 512];
-    let mut places = [0u64; 128];
-    let mut merged = [0u64; 128];
-    let mut names = [0u8; 512];
-    write_message(text, &mut ends, &mut places, &mut merged, &mut names, out)
-}
-
-// The same of up to 4,096 bytes.
-pub fn write_4096(text: &[u8], out: &mut [u8]) -> usize
-    requires { Message text.now × (length text.now ≤ 4096) × (5 * length text.now ≤ length out.old) }
-    ensures { WroteMessage text.now out.old out.new result }
-{
-    let mut ends = [0u16; 4096];
-    let mut places = [0u64; 1024];
-    let mut merged = [0u64; 1024];
-    let mut names = [0u8; 4096];
-    write_message(text, &mut ends, &mut places, &mut merged, &mut names, out)
-}
-
-// The same of any length.
-pub fn write_32768(text: &[u8], out: &mut [u8]) -> usize
-    requires { Message text.now × (5 * length text.now ≤ length out.old) }
-    ensures { WroteMessage text.now out.old out.new result }
-{
-    let mut ends = [0u16; 32768];
-    let mut places = [0u64; 8192];
-    let mut merged = [0u64; 8192];
-    let mut names = [0u8; 32768];
+    let mut ends = [0u16; N];
+    let mut places = [0u64; QUARTER];
+    let mut merged = [0u64; QUARTER];
+    let mut names = [0u8; N];
     write_message(text, &mut ends, &mut places, &mut merged, &mut names, out)
 }
 
@@ -76,25 +88,22 @@ fn write_accepted(text: &[u8], out: &mut [u8]) -> usize
     ensures { WroteMessage text.now out.old out.new result }
 {
     if text.len() <= 512 {
-        return write_512(text, out);
+        return write_within::<512, 128>(text, out);
     }
     if text.len() <= 4096 {
-        return write_4096(text, out);
+        return write_within::<4096, 1024>(text, out);
     }
-    write_32768(text, out)
+    write_within::<32768, 8192>(text, out)
 }
 
-// The canonical bytes of a message, at the front of the output. A refusal changes nothing.
+// The canonical bytes of a message, at the front of the output; how many they are. A refusal changes nothing.
 #[tactic(auto, using(crate::proofs::MessageLaws::short_output))]
-pub fn canonical(text: &[u8], out: &mut [u8]) -> Answer
+pub fn canonical(text: &[u8], out: &mut [u8]) -> Result<usize, NotWritten>
     ensures { Answered text.now out.old out.new result }
 {
     if out.len() < 163840 {
-        return Answer::Refused(3);
+        return Err(NotWritten::ShortOutput);
     }
-    let number = refusal(text);
-    if number != 0 {
-        return Answer::Refused(number);
-    }
-    Answer::Written(write_accepted(text, out))
+    check(text)?;
+    Ok(write_accepted(text, out))
 }

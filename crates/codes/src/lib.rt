@@ -6,7 +6,7 @@ ghost use Rattle.std.specs.Prelude.{◌≡◌};
 ghost use Rattle.rules.specs.Answers.{of_step, of_changed, of_lost, of_ticked, of_asked, of_viewed};
 ghost use Rattle.codes.specs.Told.{Tells, TellsAsked, TellsViewed};
 
-use rules::{Asked, Changed, Lost, Step, Ticked, Viewed};
+use rules::{Lost, Refusal, Step, Ticked};
 
 const REFUSED: u64 = 0;
 
@@ -36,151 +36,96 @@ const NO: u64 = 2;
 
 const MESSAGES: u64 = 1;
 
-#[derive(Clone, Copy)]
+#[derive(Clone, Copy, Debug, PartialEq, Eq)]
 pub struct Told {
     pub code: u64,
     pub count: u64,
     pub reports: u64,
 }
 
-pub fn of_changed(a: Changed) -> Told
+impl Told {
+    // The code; the count goes where a host wants it.
+    pub fn tell(self, count: &mut u64) -> u64
+        ensures { (result ≡ self.code) × (count.new ≡ self.count) }
+    {
+        *count = self.count;
+        self.code
+    }
+}
+
+// An answer without reports.
+fn counted(code: u64, count: u64) -> Told
+    ensures { result ≡ record { code = code; count = count; reports = 0 } }
+{
+    Told {
+        code,
+        count,
+        reports: 0,
+    }
+}
+
+pub fn of_changed(a: Result<(), Refusal>) -> Told
     ensures { (Tells (of_changed a) result.code result.count 0) × (result.reports ≡ 0) }
 {
     match a {
-        Changed::Done => Told {
-            code: DONE,
-            count: 0,
-            reports: 0,
-        },
-        Changed::Refused(n) => Told {
-            code: REFUSED,
-            count: n,
-            reports: 0,
-        },
+        Ok(()) => counted(DONE, 0),
+        Err(refusal) => counted(REFUSED, refusal.number()),
     }
 }
 
-pub fn of_step(a: Step) -> Told
+pub fn of_step(a: Result<Step, Refusal>) -> Told
     ensures { (Tells (of_step a) result.code result.count 0) × (result.reports ≡ 0) }
 {
     match a {
-        Step::Apply(n) => Told {
-            code: APPLY,
-            count: n as u64,
-            reports: 0,
-        },
-        Step::Duplicate => Told {
-            code: DUPLICATE,
-            count: 0,
-            reports: 0,
-        },
-        Step::Held => Told {
-            code: HELD,
-            count: 0,
-            reports: 0,
-        },
-        Step::Ignored => Told {
-            code: IGNORED,
-            count: 0,
-            reports: 0,
-        },
-        Step::Diverged => Told {
-            code: DIVERGED,
-            count: 0,
-            reports: 0,
-        },
-        Step::Failed => Told {
-            code: FAILED,
-            count: 0,
-            reports: 0,
-        },
-        Step::Refused(n) => Told {
-            code: REFUSED,
-            count: n,
-            reports: 0,
-        },
+        Ok(Step::Apply(n)) => counted(APPLY, n as u64),
+        Ok(Step::Duplicate) => counted(DUPLICATE, 0),
+        Ok(Step::Held) => counted(HELD, 0),
+        Ok(Step::Ignored) => counted(IGNORED, 0),
+        Ok(Step::Diverged) => counted(DIVERGED, 0),
+        Ok(Step::Failed) => counted(FAILED, 0),
+        Err(refusal) => counted(REFUSED, refusal.number()),
     }
 }
 
-pub fn of_lost(a: Lost) -> Told
+pub fn of_lost(a: Result<Lost, Refusal>) -> Told
     ensures { (Tells (of_lost a) result.code result.count 0) × (result.reports ≡ 0) }
 {
     match a {
-        Lost::Kept => Told {
-            code: KEPT,
-            count: 0,
-            reports: 0,
-        },
-        Lost::Gone => Told {
-            code: GONE,
-            count: 0,
-            reports: 0,
-        },
-        Lost::Rebuild(n) => Told {
-            code: REBUILD,
-            count: n as u64,
-            reports: 0,
-        },
-        Lost::Refused(n) => Told {
-            code: REFUSED,
-            count: n,
-            reports: 0,
-        },
+        Ok(Lost::Kept) => counted(KEPT, 0),
+        Ok(Lost::Gone) => counted(GONE, 0),
+        Ok(Lost::Rebuild(n)) => counted(REBUILD, n as u64),
+        Err(refusal) => counted(REFUSED, refusal.number()),
     }
 }
 
-pub fn of_ticked(a: Ticked) -> Told
+pub fn of_ticked(a: Result<Ticked, Refusal>) -> Told
     ensures { Tells (of_ticked a) result.code result.count result.reports }
 {
     match a {
-        Ticked::Done { reports, records } => Told {
+        Ok(ticked) => Told {
             code: DONE,
-            count: records as u64,
-            reports: reports as u64,
+            count: ticked.records as u64,
+            reports: ticked.reports as u64,
         },
-        Ticked::Refused(n) => Told {
-            code: REFUSED,
-            count: n,
-            reports: 0,
-        },
+        Err(refusal) => counted(REFUSED, refusal.number()),
     }
 }
 
-pub fn of_asked(a: Asked) -> Told
+pub fn of_asked(a: Result<bool, Refusal>) -> Told
     ensures { TellsAsked (of_asked a) result.code result.count }
 {
     match a {
-        Asked::Yes => Told {
-            code: YES,
-            count: 0,
-            reports: 0,
-        },
-        Asked::No => Told {
-            code: NO,
-            count: 0,
-            reports: 0,
-        },
-        Asked::Refused(n) => Told {
-            code: REFUSED,
-            count: n,
-            reports: 0,
-        },
+        Ok(true) => counted(YES, 0),
+        Ok(false) => counted(NO, 0),
+        Err(refusal) => counted(REFUSED, refusal.number()),
     }
 }
 
-pub fn of_viewed(a: Viewed) -> Told
+pub fn of_viewed(a: Result<usize, Refusal>) -> Told
     ensures { TellsViewed (of_viewed a) result.code result.count }
 {
     match a {
-        Viewed::Messages(n) => Told {
-            code: MESSAGES,
-            count: n as u64,
-            reports: 0,
-        },
-        Viewed::Refused(n) => Told {
-            code: REFUSED,
-            count: n,
-            reports: 0,
-        },
+        Ok(n) => counted(MESSAGES, n as u64),
+        Err(refusal) => counted(REFUSED, refusal.number()),
     }
 }

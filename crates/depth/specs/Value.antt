@@ -1,17 +1,14 @@
--- A depth by value, read as the book of both sides, and what the answers say.
-use Rattle.std.specs.Prelude.{◌≡◌, List, ℕ, ◌-◌, ◌<◌, get_or, Float}
-use Rattle.std.proofs.Math.Option.{Option, none, some}
+-- A depth in arrays, read as the book of both sides, and what the answers say.
+use Rattle.std.specs.Prelude.{◌≡◌, List, ℕ, ◌-◌, ◌<◌, get_or, Float, Result, Ok, Err}
 use Rattle.std.specs.Float.{nan}
 use Rattle.words.specs.Words.{tab}
 use Rattle.rules.specs.Answers.{Queried, refusal, value}
-use Rattle.rules.specs.declared.Changed.{Changed}
 use Rattle.levels.specs.declared.Level.{Level}
+use Rattle.levels.specs.declared.refusal.Refusal.{Refusal}
 use Rattle.levels.specs.Depth.{Book}
-use Rattle.levels.specs.Work.{level_in}
+use Rattle.levels.specs.Work.{level_in, number_of}
 use Rattle.depth.specs.declared.Side.{Side}
 use Rattle.depth.specs.declared.Depth.{Depth}
-use Rattle.depth.specs.declared.Quoted.{Quoted}
-use Rattle.depth.specs.declared.Summed.{Summed}
 
 -- past the end of an array
 abbrev pub blank : Level
@@ -31,21 +28,7 @@ book_of d = record { bids = side_by_value d.bids; asks = side_by_value d.asks }
 abbrev pub Split : List Level → (count : ℕ) → List ℕ → List Float → (n : ℕ) → Type 0
 Split ls count prices sizes n = (i : ℕ) → i < n → level_in prices sizes i ≡ get_or ls (count - 1 - i) blank
 
--- an answer beside what it is given with
-abbrev pub said : {A : Type 0} → Changed → A → Queried A
-said Changed.Done a = value a
-said (Changed.Refused n) a = refusal n
-
--- a refusal changes nothing
-abbrev pub Unchanged : {A : Type 0} → Changed → A → A → Type 0
-Unchanged Changed.Done a b = Unit {0}
-Unchanged (Changed.Refused n) a b = b ≡ a
-
-abbrev pub quoted : Quoted → Queried (Option Level)
-quoted (Quoted.Best l) = value (some l)
-quoted Quoted.Nothing = value none
-quoted (Quoted.Refused n) = refusal n
-
-abbrev pub summed : Summed → Queried Float
-summed (Summed.Size x) = value x
-summed (Summed.Refused n) = refusal n
+-- what an answer says: a refusal's number, or its value as f reads it
+abbrev pub said : {A B : Type 0} → (B → A) → Result B Refusal → Queried A
+said f (Ok b) = value (f b)
+said f (Err e) = refusal (number_of e)

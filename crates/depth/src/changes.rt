@@ -1,124 +1,66 @@
 // A level set, and both sides trimmed.
-ghost use Rattle.std.specs.Prelude.{◌≡◌, true};
+ghost use Rattle.std.specs.Prelude.{◌≡◌, true, OnErr};
 ghost use Rattle.levels.specs.Depth as Rules;
 ghost use Rattle.levels.specs.Depth.{side_sound, set_side, trim_side};
-ghost use Rattle.levels.specs.Work.{reported};
-ghost use Rattle.depth.specs.Value.{side_by_value, book_of, said, Unchanged};
+ghost use Rattle.depth.specs.Value.{side_by_value, book_of, said};
 
 use crate::columns::{join, split};
-use crate::tested::sound;
-use crate::{Answered, Depth, Side};
-use levels::{Reported, Set};
-use rules::Changed;
+use crate::{Depth, Side};
+use levels::{Refusal, side};
 
-// A side with its answer.
-#[derive(Clone, Copy)]
-struct Setting {
-    side: Side,
-    answer: Changed,
-}
+impl Side {
+    fn set(&mut self, bid: bool, price: u32, size: f64) -> Result<(), Refusal>
+        requires { side_sound bid (side_by_value self.old) ≡ true }
+        ensures answer { said (λ _. side_by_value self.new) result ≡ set_side bid price size (side_by_value self.old) }
+        ensures refused { OnErr result (self.new ≡ self.old) }
+    {
+        let mut columns = split(self);
+        let count = side::set(
+            &mut columns.prices,
+            &mut columns.sizes,
+            self.count,
+            bid,
+            price,
+            size,
+        )?;
+        self.levels = join(&columns, count);
+        self.count = count;
+        Ok(())
+    }
 
-fn set_side(side: Side, bid: bool, price: u32, size: f64) -> Setting
-    requires { side_sound bid (side_by_value side) ≡ true }
-    ensures { (said result.answer (side_by_value result.side) ≡ set_side bid price size (side_by_value side)) × Unchanged result.answer side result.side }
-{
-    let c = split(side);
-    let mut prices = c.prices;
-    let mut sizes = c.sizes;
-    match levels::side::set(&mut prices, &mut sizes, side.count, bid, price, size) {
-        Set::Done(count) => {
-            let levels = join(prices, sizes, count);
-            let next = Side {
-                levels: levels,
-                count: count,
-            };
-            Setting {
-                side: next,
-                answer: Changed::Done,
-            }
-        }
-        Set::Refused(n) => Setting {
-            side: side,
-            answer: Changed::Refused(n),
-        },
+    fn trim(&mut self, bid: bool, best: Option<u32>)
+        requires { side_sound bid (side_by_value self.old) ≡ true }
+        ensures { side_by_value self.new ≡ trim_side bid best (side_by_value self.old) }
+    {
+        let columns = split(self);
+        let count = side::trim(&columns.prices, self.count, bid, best);
+        self.levels = join(&columns, count);
+        self.count = count;
     }
 }
 
-// Sets a level's size; size zero, of either sign, removes the level.
-pub fn set(depth: Depth, bid: bool, price: u32, size: f64) -> Answered
-    ensures { (said result.answer (book_of result.depth) ≡ Rules.set bid price size (book_of depth)) × Unchanged result.answer depth result.depth }
-{
-    if !sound(depth) {
-        return Answered {
-            depth: depth,
-            answer: Changed::Refused(1),
-        };
-    }
-    let bids = depth.bids;
-    let asks = depth.asks;
-    if bid {
-        let r = set_side(bids, true, price, size);
-        let next = r.side;
-        let answer = r.answer;
-        let changed = Depth {
-            bids: next,
-            asks: asks,
-        };
-        Answered {
-            depth: changed,
-            answer: answer,
-        }
-    } else {
-        let r = set_side(asks, false, price, size);
-        let next = r.side;
-        let answer = r.answer;
-        let changed = Depth {
-            bids: bids,
-            asks: next,
-        };
-        Answered {
-            depth: changed,
-            answer: answer,
+impl Depth {
+    // Sets a level's size; size zero, of either sign, removes the level. Refused, the depth stays.
+    pub fn set(&mut self, bid: bool, price: u32, size: f64) -> Result<(), Refusal>
+        ensures answer { said (λ _. book_of self.new) result ≡ Rules.set bid price size (book_of self.old) }
+        ensures refused { OnErr result (self.new ≡ self.old) }
+    {
+        self.tested()?;
+        if bid {
+            self.bids.set(true, price, size)
+        } else {
+            self.asks.set(false, price, size)
         }
     }
-}
 
-fn trim_side(side: Side, bid: bool, best: Reported) -> Side
-    requires { side_sound bid (side_by_value side) ≡ true }
-    ensures { side_by_value result ≡ trim_side bid (reported best) (side_by_value side) }
-{
-    let c = split(side);
-    let prices = c.prices;
-    let sizes = c.sizes;
-    let count = levels::side::trim(&prices, side.count, bid, best);
-    let levels = join(prices, sizes, count);
-    Side {
-        levels: levels,
-        count: count,
-    }
-}
-
-// Drops every level better than the reported best, or the side where none is reported.
-pub fn trim(depth: Depth, best_bid: Reported, best_ask: Reported) -> Answered
-    ensures { (said result.answer (book_of result.depth) ≡ Rules.trim (reported best_bid) (reported best_ask) (book_of depth))
-        × Unchanged result.answer depth result.depth }
-{
-    if !sound(depth) {
-        return Answered {
-            depth: depth,
-            answer: Changed::Refused(1),
-        };
-    }
-    let bids = depth.bids;
-    let asks = depth.asks;
-    let kept_bids = trim_side(bids, true, best_bid);
-    let kept_asks = trim_side(asks, false, best_ask);
-    let changed = Depth {
-        bids: kept_bids,
-        asks: kept_asks,
-    };
-    Answered {
-        depth: changed,
-        answer: Changed::Done,
+    // Drops every level better than the reported best, or the side where none is reported. Refused, the depth stays.
+    pub fn trim(&mut self, best_bid: Option<u32>, best_ask: Option<u32>) -> Result<(), Refusal>
+        ensures answer { said (λ _. book_of self.new) result ≡ Rules.trim best_bid best_ask (book_of self.old) }
+        ensures refused { OnErr result (self.new ≡ self.old) }
+    {
+        self.tested()?;
+        self.bids.trim(true, best_bid);
+        self.asks.trim(false, best_ask);
+        Ok(())
     }
 }

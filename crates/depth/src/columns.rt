@@ -11,43 +11,35 @@ pub struct Columns {
     pub sizes: [f64; 512],
 }
 
-pub fn split(side: Side) -> Columns
-    requires { side.count ≤ 512 }
-    ensures { Split side.levels side.count result.prices result.sizes side.count }
+pub fn split(side: &Side) -> Columns
+    requires { side.now.count ≤ 512 }
+    ensures { Split side.now.levels side.now.count result.prices result.sizes side.now.count }
 {
     let count = side.count;
-    let mut prices: [u32; 512] = [0; 512];
-    let mut sizes: [f64; 512] = [0.0; 512];
-    let mut i: usize = 0;
-    while i < count {
+    let mut prices = [0; 512];
+    let mut sizes = [0.0; 512];
+    for i in 0..count {
         let level = side.levels[count - 1 - i];
         prices[i] = level.price;
         sizes[i] = level.size;
-        i += 1;
     }
-    Columns {
-        prices: prices,
-        sizes: sizes,
-    }
+    Columns { prices, sizes }
 }
 
-pub fn join(prices: [u32; 512], sizes: [f64; 512], count: usize) -> [Level; 512]
+pub fn join(columns: &Columns, count: usize) -> [Level; 512]
     requires { count ≤ 512 }
-    ensures { Split result count prices sizes count }
+    ensures { Split result count columns.now.prices columns.now.sizes count }
 {
     let none = Level {
         price: 0,
         size: 0.0,
     };
-    let mut levels: [Level; 512] = [none; 512];
-    let mut i: usize = 0;
-    while i < count {
-        let level = Level {
-            price: prices[i],
-            size: sizes[i],
+    let mut levels = [none; 512];
+    for i in 0..count {
+        levels[count - 1 - i] = Level {
+            price: columns.prices[i],
+            size: columns.sizes[i],
         };
-        levels[count - 1 - i] = level;
-        i += 1;
     }
     levels
 }

@@ -1,100 +1,67 @@
 // Best prices, levels in order, and sums.
-ghost use Rattle.std.specs.Prelude.{◌≡◌, true, false, cond};
-ghost use Rattle.rules.specs.Answers.{refusal, value};
-ghost use Rattle.levels.specs.Depth.{best_of, best, levels, bids_from, asks_to};
-ghost use Rattle.depth.specs.Value.{side_by_value, book_of, said, quoted, summed};
+ghost use Rattle.std.specs.Prelude.{◌≡◌, ◌≤◌, true, false};
+ghost use Rattle.levels.specs.Depth.{best, levels, bids_from, asks_to};
+ghost use Rattle.depth.specs.Value.{side_by_value, book_of, said};
 
 use crate::columns::split;
-use crate::tested::sound;
-use crate::{Depth, Levels, Quoted, Side, Summed};
-use rules::Changed;
+use crate::{Depth, Side};
+use levels::{Level, Refusal, side};
 
-fn first(side: Side) -> Quoted
-    ensures { quoted result ≡ value (best_of (side_by_value side)) }
-{
-    if 0 < side.count {
-        let level = side.levels[0];
-        Quoted::Best(level)
-    } else {
-        Quoted::Nothing
+impl Side {
+    fn levels(&self) -> &[Level]
+        requires { self.now.count ≤ 512 }
+        ensures { result.now ≡ side_by_value self.now }
+    {
+        &self.levels[..self.count]
     }
 }
 
-pub fn best_bid(depth: Depth) -> Quoted
-    ensures { quoted result ≡ best true (book_of depth) }
-{
-    if !sound(depth) {
-        return Quoted::Refused(1);
+impl Depth {
+    // All bids, the best first.
+    pub fn bid_levels(&self) -> Result<&[Level], Refusal>
+        ensures { said (λ ls. ls.now) result ≡ levels true (book_of self.now) }
+    {
+        self.tested()?;
+        Ok(self.bids.levels())
     }
-    let side = depth.bids;
-    first(side)
-}
 
-pub fn best_ask(depth: Depth) -> Quoted
-    ensures { quoted result ≡ best false (book_of depth) }
-{
-    if !sound(depth) {
-        return Quoted::Refused(1);
+    // All asks, the best first.
+    pub fn ask_levels(&self) -> Result<&[Level], Refusal>
+        ensures { said (λ ls. ls.now) result ≡ levels false (book_of self.now) }
+    {
+        self.tested()?;
+        Ok(self.asks.levels())
     }
-    let side = depth.asks;
-    first(side)
-}
 
-// A side of a depth that is sound, or not.
-fn levels_if(sound: bool, side: Side) -> Levels
-    ensures { said result.answer (side_by_value result.side) ≡ cond sound (value (side_by_value side)) (refusal 1) }
-{
-    if sound {
-        Levels {
-            side: side,
-            answer: Changed::Done,
-        }
-    } else {
-        Levels {
-            side: side,
-            answer: Changed::Refused(1),
-        }
+    pub fn best_bid(&self) -> Result<Option<Level>, Refusal>
+        ensures { said (λ level. level) result ≡ best true (book_of self.now) }
+    {
+        let bids = self.bid_levels()?;
+        Ok(bids.first().copied())
     }
-}
 
-pub fn bid_levels(depth: Depth) -> Levels
-    ensures { said result.answer (side_by_value result.side) ≡ levels true (book_of depth) }
-{
-    let all = depth.bids;
-    levels_if(sound(depth), all)
-}
-
-pub fn ask_levels(depth: Depth) -> Levels
-    ensures { said result.answer (side_by_value result.side) ≡ levels false (book_of depth) }
-{
-    let all = depth.asks;
-    levels_if(sound(depth), all)
-}
-
-// Bid size priced at or above a price.
-pub fn bid_depth_from(depth: Depth, floor: u32) -> Summed
-    ensures { summed result ≡ bids_from floor (book_of depth) }
-{
-    if !sound(depth) {
-        return Summed::Refused(1);
+    pub fn best_ask(&self) -> Result<Option<Level>, Refusal>
+        ensures { said (λ level. level) result ≡ best false (book_of self.now) }
+    {
+        let asks = self.ask_levels()?;
+        Ok(asks.first().copied())
     }
-    let bids = depth.bids;
-    let c = split(bids);
-    let prices = c.prices;
-    let sizes = c.sizes;
-    Summed::Size(levels::side::bid_depth_from(&prices, &sizes, bids.count, floor))
-}
 
-// Ask size priced at or below a price.
-pub fn ask_depth_to(depth: Depth, ceiling: u32) -> Summed
-    ensures { summed result ≡ asks_to ceiling (book_of depth) }
-{
-    if !sound(depth) {
-        return Summed::Refused(1);
+    // Bid size priced at or above a price.
+    pub fn bid_depth_from(&self, floor: u32) -> Result<f64, Refusal>
+        ensures { said (λ sum. sum) result ≡ bids_from floor (book_of self.now) }
+    {
+        self.tested()?;
+        let columns = split(&self.bids);
+        Ok(side::bid_depth_from(&columns.prices, &columns.sizes, self.bids.count, floor))
     }
-    let asks = depth.asks;
-    let c = split(asks);
-    let prices = c.prices;
-    let sizes = c.sizes;
-    Summed::Size(levels::side::ask_depth_to(&prices, &sizes, asks.count, ceiling))
+
+    // Ask size priced at or below a price.
+    pub fn ask_depth_to(&self, ceiling: u32) -> Result<f64, Refusal>
+        ensures { said (λ sum. sum) result ≡ asks_to ceiling (book_of self.now) }
+    {
+        self.tested()?;
+        let columns = split(&self.asks);
+        Ok(side::ask_depth_to(&columns.prices, &columns.sizes, self.asks.count, ceiling))
+    }
 }

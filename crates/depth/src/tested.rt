@@ -1,32 +1,40 @@
 // Whether a depth is sound.
-ghost use Rattle.std.specs.Prelude.{◌≡◌};
+ghost use Rattle.std.specs.Prelude.{◌≡◌, true, false, OnOk, IfErr};
 ghost use Rattle.levels.specs.Depth.{side_sound, sound};
 ghost use Rattle.depth.specs.Value.{side_by_value, book_of};
 
 use crate::columns::split;
 use crate::{Depth, Side};
-use levels::side;
+use levels::{Refusal, side};
 
-fn sound_side(side: Side, bid: bool) -> bool
-    ensures { result ≡ side_sound bid (side_by_value side) }
-{
-    if 512 < side.count {
-        return false;
+impl Side {
+    fn sound(&self, bid: bool) -> bool
+        ensures { result ≡ side_sound bid (side_by_value self.now) }
+    {
+        if self.count > 512 {
+            return false;
+        }
+        let columns = split(self);
+        side::sound(&columns.prices, &columns.sizes, self.count, bid)
     }
-    let c = split(side);
-    let prices = c.prices;
-    let sizes = c.sizes;
-    side::sound(&prices, &sizes, side.count, bid)
 }
 
-pub fn sound(depth: Depth) -> bool
-    ensures { result ≡ sound (book_of depth) }
-{
-    let bids = depth.bids;
-    let asks = depth.asks;
-    if sound_side(bids, true) {
-        sound_side(asks, false)
-    } else {
-        false
+impl Depth {
+    pub fn sound(&self) -> bool
+        ensures { result ≡ sound (book_of self.now) }
+    {
+        self.bids.sound(true) && self.asks.sound(false)
+    }
+
+    // What every call asks first.
+    pub(crate) fn tested(&self) -> Result<(), Refusal>
+        ensures done { OnOk result (sound (book_of self.now) ≡ true) }
+        ensures refused { IfErr result (λ e. (e ≡ Refusal.Unsound) × (sound (book_of self.now) ≡ false)) }
+    {
+        if self.sound() {
+            Ok(())
+        } else {
+            Err(Refusal::Unsound)
+        }
     }
 }

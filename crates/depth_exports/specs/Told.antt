@@ -1,11 +1,10 @@
 -- A depth in four lent arrays, and what an answer's numbers say: code 1 is done, code 0 refused, and the number is the refusal's.
-use Rattle.std.specs.Prelude.{◌≡◌, List, Bool, cond, ℕ, eqb, Float}
-use Rattle.std.proofs.Math.Option.{Option, none, some}
+use Rattle.std.specs.Prelude.{None, Option, Some, ◌≡◌, List, Bool, cond, ℕ, eqb, Float, Result, Ok, Err}
 use Rattle.rules.specs.Answers.{Queried, refusal, value}
 use Rattle.levels.specs.declared.Level.{Level}
-use Rattle.levels.specs.declared.Set.{Set}
+use Rattle.levels.specs.declared.refusal.Refusal.{Refusal}
 use Rattle.levels.specs.Depth.{Book}
-use Rattle.levels.specs.Work.{side_in}
+use Rattle.levels.specs.Work.{side_in, number_of}
 
 -- the arrays of prices and of sizes
 pub record Arrays : Type 0 where
@@ -33,14 +32,14 @@ abbrev pub Same : {A : Type 0} → (told : ℕ) → A → A → Type 0
 Same told a b = told ≡ 0 → b ≡ a
 
 -- the code and the number of an answer
-abbrev pub Tells : Set → (code number : ℕ) → Type 0
-Tells (Set.Done n) code number = (code ≡ 1) × (number ≡ n)
-Tells (Set.Refused n) code number = (code ≡ 0) × (number ≡ n)
+abbrev pub Tells : Result ℕ Refusal → (code number : ℕ) → Type 0
+Tells (Ok n) code number = (code ≡ 1) × (number ≡ n)
+Tells (Err e) code number = (code ≡ 0) × (number ≡ number_of e)
 
 -- what the host says is reported
 abbrev pub reported_by : Bool → ℕ → Option ℕ
-reported_by reported price = cond reported (some price) none
+reported_by reported price = cond reported (Some price) None
 
 -- the best level: the number says whether there is one
 abbrev pub told_best : (code number price : ℕ) → Float → Queried (Option Level)
-told_best code number price size = told code number (cond (eqb number 0) none (some (record { price = price; size = size })))
+told_best code number price size = told code number (cond (eqb number 0) None (Some (record { price = price; size = size })))

@@ -1,6 +1,6 @@
 // The calls on a depth for a host in C or Rust. A side is two arrays of 512 and a count: the prices and the sizes of its levels, the best
 // last. The arrays and pointers of one call may not overlap. A call answers 1, or 0 where it is refused, with the refusal's number
-// behind its first pointer to a count.
+// behind its first pointer to a count. Arrays beside counts, and numbers for answers: the C interface (host/include/pollendrift_depth.h).
 #![tactic(auto)]
 
 pub mod owned;
@@ -8,10 +8,10 @@ pub mod reads;
 
 ghost use Rattle.std.specs.Prelude.{◌≡◌};
 ghost use Rattle.levels.specs.Depth as Rules;
-ghost use Rattle.levels.specs.Work as Work;
+ghost use Rattle.levels.specs.Work.{number_of};
 ghost use Rattle.depth_exports.specs.Told.{arrays, book_in, told, told_set, Tells, Same, reported_by};
 
-use levels::{Reported, Set, side};
+use levels::{Refusal, side};
 
 pub fn sound(
     bid_prices: &[u32; 512],
@@ -24,11 +24,8 @@ pub fn sound(
     ensures { result ≡ Rules.sound (book_in (arrays bid_prices.now bid_sizes.now
         ask_prices.now ask_sizes.now) bids asks) }
 {
-    if side::sound(bid_prices, bid_sizes, bids, true) {
-        side::sound(ask_prices, ask_sizes, asks, false)
-    } else {
-        false
-    }
+    side::sound(bid_prices, bid_sizes, bids, true)
+        && side::sound(ask_prices, ask_sizes, asks, false)
 }
 
 // Sets a level's size; size zero, of either sign, removes the level. `count` is then the new count of its side.
@@ -53,8 +50,7 @@ pub extern "C" fn depth_set(
         (arrays bid_prices.new bid_sizes.new ask_prices.new ask_sizes.new) }
 {
     if !sound(bid_prices, bid_sizes, bids, ask_prices, ask_sizes, asks) {
-        *count = 1;
-        return 0;
+        return refused(Refusal::Unsound, count);
     }
     if bid {
         let answer = side::set(bid_prices, bid_sizes, bids, true, price, size);
@@ -65,28 +61,25 @@ pub extern "C" fn depth_set(
     }
 }
 
-pub fn of_set(answer: Set, count: &mut u64) -> u64
+// What a call answers where it is refused.
+pub fn refused(refusal: Refusal, count: &mut u64) -> u64
+    ensures code { result ≡ 0 }
+    ensures number { count.new ≡ number_of refusal }
+{
+    *count = refusal.number();
+    0
+}
+
+// What a level set is answered.
+pub fn of_set(answer: Result<usize, Refusal>, count: &mut u64) -> u64
     ensures { Tells answer result count.new }
 {
     match answer {
-        Set::Done(n) => {
+        Ok(n) => {
             *count = n as u64;
             1
         }
-        Set::Refused(n) => {
-            *count = n;
-            0
-        }
-    }
-}
-
-pub fn reported(is: bool, price: u32) -> Reported
-    ensures { Work.reported result ≡ reported_by is price }
-{
-    if is {
-        Reported::Price(price)
-    } else {
-        Reported::Nothing
+        Err(refusal) => refused(refusal, count),
     }
 }
 
@@ -114,11 +107,10 @@ pub extern "C" fn depth_trim(
         × Same result ask_count.old ask_count.new }
 {
     if !sound(bid_prices, bid_sizes, bids, ask_prices, ask_sizes, asks) {
-        *bid_count = 1;
-        return 0;
+        return refused(Refusal::Unsound, bid_count);
     }
-    let b = side::trim(bid_prices, bids, true, reported(bid_reported, best_bid));
-    let a = side::trim(ask_prices, asks, false, reported(ask_reported, best_ask));
+    let b = side::trim(bid_prices, bids, true, bid_reported.then_some(best_bid));
+    let a = side::trim(ask_prices, asks, false, ask_reported.then_some(best_ask));
     *bid_count = b as u64;
     *ask_count = a as u64;
     1

@@ -5,7 +5,7 @@ ghost use Rattle.levels.specs.Depth.{side_sound, set_side, bid_depth_from, ask_d
 ghost use Rattle.levels.specs.Work.{side_in, Falling, Trims};
 ghost use Rattle.depth_exports.specs.Told.{told, Same, reported_by};
 
-use crate::{of_set, reported};
+use crate::of_set;
 use levels::side;
 
 #[unsafe(no_mangle)]
@@ -39,7 +39,7 @@ pub extern "C" fn owned_depth_trim(
     requires { (count ≤ 512) × Falling (not bid) prices.now count }
     ensures { Trims bid (reported_by is_reported best) prices.now count result }
 {
-    side::trim(prices, count, bid, reported(is_reported, best))
+    side::trim(prices, count, bid, is_reported.then_some(best))
 }
 
 #[unsafe(no_mangle)]

@@ -6,8 +6,8 @@ ghost use Rattle.levels.specs.Depth.{best_of};
 ghost use Rattle.levels.specs.Work.{side_in};
 ghost use Rattle.depth_exports.specs.Told.{arrays, book_in, told, told_best, Same};
 
-use crate::sound;
-use levels::side;
+use crate::{refused, sound};
+use levels::{Refusal, side};
 
 // Whether the depth is sound: then the levels of each side lie in its arrays, in order.
 #[unsafe(no_mangle)]
@@ -29,8 +29,7 @@ pub extern "C" fn depth_check(
         *count = 0;
         1
     } else {
-        *count = 1;
-        0
+        refused(Refusal::Unsound, count)
     }
 }
 
@@ -77,8 +76,7 @@ pub extern "C" fn depth_best(
         × Same count.new price.old price.new × Same count.new size.old size.new }
 {
     if !sound(bid_prices, bid_sizes, bids, ask_prices, ask_sizes, asks) {
-        *count = 1;
-        return 0;
+        return refused(Refusal::Unsound, count);
     }
     if bid {
         last(bid_prices, bid_sizes, bids, price, size, count);
@@ -108,8 +106,7 @@ pub extern "C" fn depth_bid_from(
         × Same result size.old size.new }
 {
     if !sound(bid_prices, bid_sizes, bids, ask_prices, ask_sizes, asks) {
-        *count = 1;
-        return 0;
+        return refused(Refusal::Unsound, count);
     }
     *count = 0;
     *size = side::bid_depth_from(bid_prices, bid_sizes, bids, floor);
@@ -135,8 +132,7 @@ pub extern "C" fn depth_ask_to(
         × Same result size.old size.new }
 {
     if !sound(bid_prices, bid_sizes, bids, ask_prices, ask_sizes, asks) {
-        *count = 1;
-        return 0;
+        return refused(Refusal::Unsound, count);
     }
     *count = 0;
     *size = side::ask_depth_to(ask_prices, ask_sizes, asks, ceiling);

@@ -1,4 +1,5 @@
 -- What push, clear and prune do to a log's reading.
+use Rattle.std.specs.Prelude.{Option, Some}
 use mathlib.Core.Path.{◌≡◌, ◌∙◌, sym, ap}
 use mathlib.Core.List.{List}
 use Prim.Native.Nat.{ℕ, ◌+◌, ◌-◌, ◌*◌, ◌≤◌, ◌<◌}
@@ -7,9 +8,6 @@ use lib.ListN.{length, get_or, set, length-set}
 use lib.Seq.{get_or-set_same, get_or-set_other}
 use Rattle.rules.specs.Quantities.{Key}
 use Rattle.rules.specs.Log.{Log, push, clear, prune, old}
-use Rattle.rules.specs.declared.Stamp.{Stamp}
-use Rattle.rules.specs.declared.Stamp.TheVariants as Stamp
-use Rattle.words.specs.Words.{tab}
 use Rattle.words.proofs.Tab.{tab-ext, tab-snoc, tab-from}
 use Rattle.event_log.specs.Log.{entry_place, entry_in, log_of, Fit, put}
 use Rattle.event_log.specs.declared.Head.{Head}
@@ -17,7 +15,7 @@ use Rattle.event_log.proofs.Ring.{place_inside, place-apart, place-on}
 use Rattle.event_log.proofs.Reading.{entry_at, log-base, log-last, log-entries, log-length}
 
 -- a log is its base, its entries and last-applied
-log_is : {l : Log} {base : ℕ} {es : List (Key × ℕ)} {last : Stamp} → l.base ≡ base → l.entries ≡ es → l.last ≡ last
+log_is : {l : Log} {base : ℕ} {es : List (Key × ℕ)} {last : Option ℕ} → l.base ≡ base → l.entries ≡ es → l.last ≡ last
     → l ≡ record { base = base; entries = es; last = last }
 log_is b e s = λ j. record { base = b j; entries = e j; last = s j }
 
@@ -49,7 +47,7 @@ module _ (g p : ℕ) (k : Key) (t : ℕ) (w : List ℕ) (size : length w ≡ 3 *
 
 -- the head after a push
 abbrev pub pushed : Head → ℕ → Head
-pushed h t = record { base = h.base; count = h.count + 1; last = Stamp.At t; front = h.front }
+pushed h t = record { base = h.base; count = h.count + 1; last = Some t; front = h.front }
 
 module _ {g : ℕ} {w z : List ℕ} {h : Head} (k : Key) (t : ℕ) (fit : Fit g w h) (room : h.count < g)
     (is : z ≡ put g (entry_place g h.front h.count) k t w) where

@@ -1,7 +1,7 @@
 -- What a log's reading says of a number and of old entries.
+use Rattle.std.specs.Prelude.{None, Some}
 use mathlib.Core.Path.{◌≡◌, refl, ap, sym, ◌∙◌}
 use mathlib.Core.List.{List}
-use mathlib.Core.Option.{none, some}
 use Prim.Native.Nat.{ℕ, zero, suc, ◌+◌, ◌-◌, ◌*◌, ◌≤◌, ◌<◌, zero-le, suc-le-suc}
 use native.Mathlib.Nat.{le_of_suc-le-suc, not-suc-le-zero}
 use native.Mathlib.Omega.{arith}
@@ -15,7 +15,7 @@ use Rattle.event_log.specs.Log.{entry_place, log_of}
 use Rattle.event_log.specs.declared.Head.{Head}
 use Rattle.event_log.proofs.Reading.{entry_at, log-entries}
 
-pub number-before : (l : Log) (n : ℕ) → n < l.base → key_at n l ≡ none
+pub number-before : (l : Log) (n : ℕ) → n < l.base → key_at n l ≡ None
 unfolding key_at
 number-before l n b = simp (lt-leb _ _ b)
 
@@ -24,11 +24,11 @@ module _ (l : Log) (count : ℕ) (f : ℕ → Key) (stand : keys l ≡ tab count
   entries : length l.entries ≡ count
   entries = sym (length-map l.entries (λ e. e.0)) ∙ ap length stand ∙ length-tab count f
 
-  pub number_past : l.base ≤ n → count ≤ n - l.base → key_at n l ≡ none
+  pub number_past : l.base ≤ n → count ≤ n - l.base → key_at n l ≡ None
   unfolding key_at
   number_past b e = simp (le-leb _ _ b, entries, le-ltb n (l.base + count) (omega arith))
 
-  pub number_in : l.base ≤ n → n - l.base < count → key_at n l ≡ some (f (n - l.base))
+  pub number_in : l.base ≤ n → n - l.base < count → key_at n l ≡ Some (f (n - l.base))
   unfolding key_at
   number_in b e =
       simp (le-leb _ _ b, entries, lt-ltb n (l.base + count) (omega arith), stand, get_d-tab count f (n - l.base) no_key e)

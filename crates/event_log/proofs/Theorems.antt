@@ -1,14 +1,13 @@
 -- The theorems of specs/Theorems.
-use mathlib.Core.Path.{◌≡◌, ◌∙◌, ap}
+use mathlib.Core.Path.{◌∙◌, ap}
 use mathlib.Core.List.{List}
-use Prim.Native.Nat.{ℕ, ◌+◌, ◌-◌}
+use Prim.Native.Nat.{ℕ, ◌-◌}
 use native.Mathlib.Omega.{arith}
 use lib.ListN.{get_or}
 use Rattle.rules.specs.Quantities.{Key, no_key}
-use Rattle.rules.specs.Log.{key_at}
 use Rattle.words.proofs.Tab.{get_d-tab}
 use Rattle.event_log.specs.Log.{entry_place, key_in, log_of}
-use Rattle.event_log.specs.Theorems.{Stands, EachStands}
+use Rattle.event_log.specs.Theorems.{EachStands}
 use Rattle.event_log.proofs.Ring.{place_short, place-turned, place_inside}
 use Rattle.event_log.proofs.Reading.{entry_at, log-base, log-entries, log-keys}
 use Rattle.event_log.proofs.Search.{number_in}

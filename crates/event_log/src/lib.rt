@@ -2,12 +2,12 @@
 #![tactic(auto)]
 
 ghost use Rattle.std.specs.Prelude.{◌≡◌, List, ℕ, ◌+◌, ◌*◌, ◌≤◌, ◌<◌, ◌^◌, length, get_or, leb};
-ghost use Rattle.rules.specs.Quantities.{same, age, log_keep};
+ghost use Rattle.rules.specs.Quantities.{age, log_keep};
 ghost use Rattle.rules.specs.Log.{stamp, prune, old};
 ghost use Rattle.event_log.specs.Log.{entry_place, key_in, log_of, Fit, put};
 ghost use Rattle.event_log.specs.Answers.{quiet_stamp};
 
-use rules::{EventKey, Stamp};
+use rules::EventKey;
 
 // An entry older than this leaves the log.
 const LOG_KEEP: u64 = 10_000;
@@ -15,27 +15,12 @@ const LOG_KEEP: u64 = 10_000;
 const QUIET: u64 = 1_000;
 
 // The number of the first entry, how many entries there are, last-applied, and the first entry's place.
-#[derive(Clone, Copy)]
+#[derive(Clone, Copy, Debug, PartialEq, Eq)]
 pub struct Head {
     pub base: u64,
     pub count: usize,
-    pub last: Stamp,
+    pub last: Option<u64>,
     pub front: usize,
-}
-
-// The key of an event number, where the log has it.
-#[derive(Clone, Copy)]
-pub enum KeyAt {
-    Key(EventKey),
-    Nowhere,
-}
-
-// A key beside the log's of an event number, where the log has it.
-#[derive(Clone, Copy)]
-pub enum Matched {
-    Same,
-    Differs,
-    Nowhere,
 }
 
 // The place of entry i: front plus i, less g where that reaches g.
@@ -63,14 +48,9 @@ pub fn stamp(head: Head, t: u64) -> Head
     ensures by_index { (g : ℕ) (w : List ℕ) → log_of g w result ≡ stamp t (log_of g w head) }
     ensures base_value { (result.base ≡ head.base) × ((result.count ≡ head.count) × (result.front ≡ head.front)) }
 {
-    let base = head.base;
-    let n = head.count;
-    let front = head.front;
     Head {
-        base: base,
-        count: n,
-        last: Stamp::At(t),
-        front: front,
+        last: Some(t),
+        ..head
     }
 }
 
@@ -86,17 +66,14 @@ pub fn key_in(w: &[u64], i: usize) -> EventKey
 pub fn age(t: u64, stamp: u64) -> u64
     ensures { result ≡ age t stamp }
 {
-    if stamp < t { t - stamp } else { 0 }
+    t.saturating_sub(stamp)
 }
 
 // Whether a stamp is quiet at t: its age has come to QUIET; `never` where it has not come.
-pub fn quiet(stamp: Stamp, t: u64, never: bool) -> bool
+pub fn quiet(stamp: Option<u64>, t: u64, never: bool) -> bool
     ensures { result ≡ quiet_stamp stamp t never }
 {
-    match stamp {
-        Stamp::Never => never,
-        Stamp::At(u) => QUIET <= age(t, u),
-    }
+    stamp.map_or(never, |u| QUIET <= age(t, u))
 }
 
 // Whether entry i is young enough to stay.
@@ -104,8 +81,7 @@ fn stays(area: &[u64], g: usize, front: usize, i: usize, t: u64) -> bool
     requires { (length area.now ≡ 3 * g) × ((front < g) × (i < g)) }
     ensures { result ≡ leb (age t (get_or area.now (2 * g + entry_place g front i) 0)) log_keep }
 {
-    let at = place(g, front, i);
-    age(t, area[2 * g + at]) <= LOG_KEEP
+    age(t, area[2 * g + place(g, front, i)]) <= LOG_KEEP
 }
 
 // How many entries at the front are too old to stay.
@@ -113,16 +89,12 @@ fn count_old(area: &[u64], g: usize, head: Head, t: u64) -> usize
     requires { Fit g area.now head }
     ensures { (result ≡ old t (log_of g area.now head).entries) × (result ≤ head.count) }
 {
-    let count = head.count;
-    let front = head.front;
-    let mut i = 0;
-    while i < count {
-        if stays(area, g, front, i, t) {
+    for i in 0..head.count {
+        if stays(area, g, head.front, i, t) {
             return i;
         }
-        i += 1;
     }
-    i
+    head.count
 }
 
 // Where the first entry stands once k of them are gone: where it stood; the first place again where none is left, so that a quiet
@@ -131,10 +103,7 @@ fn front_after(g: usize, front: usize, count: usize, k: usize) -> usize
     requires { (front < g) × ((k ≤ g) × (2 * g < 2 ^ 64)) }
     ensures { (result < g) × (k < count → result ≡ entry_place g front k) }
 {
-    if k < count {
-        return place(g, front, k);
-    }
-    0
+    if k < count { place(g, front, k) } else { 0 }
 }
 
 // Drops the entries at the front that are too old to stay; the numbers and places of the others stay theirs.
@@ -144,21 +113,10 @@ pub fn prune(area: &[u64], g: usize, head: Head, t: u64) -> Head
     ensures fit { (Fit g area.now result) × (result.base + result.count ≡ head.base + head.count) }
 {
     let k = count_old(area, g, head, t);
-    let base = head.base;
-    let count = head.count;
-    let last = head.last;
-    let front = front_after(g, head.front, count, k);
     Head {
-        base: base + k as u64,
-        count: count - k,
-        last: last,
-        front: front,
+        base: head.base + k as u64,
+        count: head.count - k,
+        front: front_after(g, head.front, head.count, k),
+        ..head
     }
-}
-
-// Whether two keys are the same.
-pub fn same_key(a: EventKey, b: EventKey) -> bool
-    ensures { result ≡ same a b }
-{
-    if a.0 == b.0 { a.1 == b.1 } else { false }
 }

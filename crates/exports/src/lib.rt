@@ -40,10 +40,7 @@ pub extern "C" fn merge_setup(
         C: keys,
         D: pairs,
     };
-    let a = setup::setup(s, l, start);
-    let told = codes::of_changed(a);
-    *count = told.count;
-    told.code
+    codes::of_changed(setup::setup(s, l, start)).tell(count)
 }
 
 #[unsafe(no_mangle)]
@@ -57,10 +54,7 @@ pub extern "C" fn merge_subscribe(
     ensures { Telling (λ a. Tells a result count.new 0)
         (λ a. Promise (of_call (Subscribe conn limit t)) (alone s.old) (says a) (alone s.new)) }
 {
-    let a = calls::subscribe(s, conn, limit, t);
-    let told = codes::of_changed(a);
-    *count = told.count;
-    told.code
+    codes::of_changed(calls::subscribe(s, conn, limit, t)).tell(count)
 }
 
 #[unsafe(no_mangle)]
@@ -77,10 +71,7 @@ pub extern "C" fn merge_snapshot(
         (λ a. Promise (of_call (Snapshot conn token message t (records out.old)))
         (lent s.old out.old) (says a) (lent s.new out.new)) }
 {
-    let a = calls::snapshot(s, out, conn, token, message, t);
-    let told = codes::of_step(a);
-    *count = told.count;
-    told.code
+    codes::of_step(calls::snapshot(s, out, conn, token, message, t)).tell(count)
 }
 
 #[unsafe(no_mangle)]
@@ -98,11 +89,7 @@ pub extern "C" fn merge_book_event(
         (λ a. Promise (of_call (BookEvent conn (key key0 key1) message t (records out.old)))
         (lent s.old out.old) (says a) (lent s.new out.new)) }
 {
-    let key = EventKey(key0, key1);
-    let a = calls::book_event(s, out, conn, key, message, t);
-    let told = codes::of_step(a);
-    *count = told.count;
-    told.code
+    codes::of_step(calls::book_event(s, out, conn, EventKey(key0, key1), message, t)).tell(count)
 }
 
 #[unsafe(no_mangle)]
@@ -120,11 +107,7 @@ pub extern "C" fn merge_print(
         (λ a. Promise (of_call (Print conn (key key0 key1) message t (records out.old)))
         (lent s.old out.old) (says a) (lent s.new out.new)) }
 {
-    let key = EventKey(key0, key1);
-    let a = calls::other(s, out, conn, key, message, t);
-    let told = codes::of_step(a);
-    *count = told.count;
-    told.code
+    codes::of_step(calls::other(s, out, conn, EventKey(key0, key1), message, t)).tell(count)
 }
 
 #[unsafe(no_mangle)]
@@ -139,10 +122,7 @@ pub extern "C" fn merge_drop(
         (λ a. Promise (of_call (Drop conn t (records out.old)))
         (lent s.old out.old) (says a) (lent s.new out.new)) }
 {
-    let a = calls::drop_conn(s, out, conn, t);
-    let told = codes::of_lost(a);
-    *count = told.count;
-    told.code
+    codes::of_lost(calls::drop_conn(s, out, conn, t)).tell(count)
 }
 
 #[unsafe(no_mangle)]
@@ -151,10 +131,7 @@ pub extern "C" fn merge_promote(s: &mut [u64], out: &mut [u64], t: u64, count: &
         (λ a. Promise (of_call (Promote t (records out.old)))
         (lent s.old out.old) (says a) (lent s.new out.new)) }
 {
-    let a = calls::promote(s, out, t);
-    let told = codes::of_lost(a);
-    *count = told.count;
-    told.code
+    codes::of_lost(calls::promote(s, out, t)).tell(count)
 }
 
 #[unsafe(no_mangle)]
@@ -162,10 +139,7 @@ pub extern "C" fn merge_reset(s: &mut [u64], t: u64, count: &mut u64) -> u64
     ensures { Telling (λ a. Tells a result count.new 0)
         (λ a. Promise (of_call (Reset t)) (alone s.old) (says a) (alone s.new)) }
 {
-    let a = calls::reset(s, t);
-    let told = codes::of_changed(a);
-    *count = told.count;
-    told.code
+    codes::of_changed(calls::reset(s, t)).tell(count)
 }
 
 #[unsafe(no_mangle)]
@@ -183,11 +157,9 @@ pub extern "C" fn merge_tick(
         (lent_all s.old out.old reports.old)
         (says a) (lent_all s.new out.new reports.new)) }
 {
-    let a = calls::tick(s, out, reports, answers, t);
-    let told = codes::of_ticked(a);
-    *count = told.count;
+    let told = codes::of_ticked(calls::tick(s, out, reports, answers, t));
     *reported = told.reports;
-    told.code
+    told.tell(count)
 }
 
 // A list of calls; docs/LAYOUT.md has the words of a call and of an answer. The code tells why the list ended: 1 all done, 11 no room for
@@ -209,8 +181,7 @@ pub extern "C" fn merge_batch(
         (lists s.old out.old reports.old answers.old)
         a (lists s.new out.new reports.new answers.new)) }
 {
-    let a = batch::batch(s, out, reports, answers, calls);
-    let told = batch::of_batched(a);
+    let told = batch::of_batched(batch::batch(s, out, reports, answers, calls));
     *done = told.calls;
     *count = told.records;
     *reported = told.reports;
@@ -222,10 +193,7 @@ pub extern "C" fn merge_in_line(s: &[u64], conn: u64, count: &mut u64) -> u64
     ensures { Telling (λ a. TellsAsked a result count.new)
         (λ a. Promise (of_query (Rules.in_line conn)) (alone s.now) (asks a) (alone s.now)) }
 {
-    let a = queries::in_line(s, conn);
-    let told = codes::of_asked(a);
-    *count = told.count;
-    told.code
+    codes::of_asked(queries::in_line(s, conn)).tell(count)
 }
 
 #[unsafe(no_mangle)]
@@ -233,10 +201,7 @@ pub extern "C" fn merge_any_in_line(s: &[u64], count: &mut u64) -> u64
     ensures { Telling (λ a. TellsAsked a result count.new)
         (λ a. Promise (of_query Rules.any_in_line) (alone s.now) (asks a) (alone s.now)) }
 {
-    let a = queries::any_in_line(s);
-    let told = codes::of_asked(a);
-    *count = told.count;
-    told.code
+    codes::of_asked(queries::any_in_line(s)).tell(count)
 }
 
 #[unsafe(no_mangle)]
@@ -244,10 +209,7 @@ pub extern "C" fn merge_servable(s: &[u64], count: &mut u64) -> u64
     ensures { Telling (λ a. TellsAsked a result count.new)
         (λ a. Promise (of_query Rules.servable) (alone s.now) (asks a) (alone s.now)) }
 {
-    let a = queries::servable(s);
-    let told = codes::of_asked(a);
-    *count = told.count;
-    told.code
+    codes::of_asked(queries::servable(s)).tell(count)
 }
 
 #[unsafe(no_mangle)]
@@ -255,10 +217,7 @@ pub extern "C" fn merge_view(s: &[u64], conn: u64, list: &mut [u64], count: &mut
     ensures { Telling (λ a. TellsViewed a result count.new)
         (λ a. Promise (of_view conn) (lent s.now list.old) (views a) (lent s.now list.new)) }
 {
-    let a = queries::view(s, conn, list);
-    let told = codes::of_viewed(a);
-    *count = told.count;
-    told.code
+    codes::of_viewed(queries::view(s, conn, list)).tell(count)
 }
 
 // The key of a message's bytes.

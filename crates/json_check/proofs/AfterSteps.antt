@@ -1,8 +1,8 @@
 -- What reading behind a value leads to.
+use Rattle.std.specs.Prelude.{None, Some}
 use mathlib.Core.Path.{◌≡◌}
 use mathlib.Core.Bool.{Bool, true, false}
 use mathlib.Core.List.{List, [], ◌∷◌}
-use mathlib.Core.Option.{none, some}
 use Prim.Native.Nat.{ℕ, ◌+◌, ◌≤◌, ◌<◌}
 use borrow.Author.Tests.{ne_eqb}
 use lib.ListN.{length, drop}
@@ -38,12 +38,12 @@ module _ (t : List ℕ) (i b : ℕ) (at : b ≡ byte_at t i) (k : List Bool) (g 
     unfolding after_item
     item-next q = rw (front, h, behind-here t i, ← ws, q)
 
-    pub member-no-name : name_rest (drop w t) ≡ none → after_member k (drop i t) g ≡ bad
+    pub member-no-name : name_rest (drop w t) ≡ None → after_member k (drop i t) g ≡ bad
     unfolding after_member
     member-no-name n = rw (front, h, behind-here t i, ← ws, n)
 
     pub member-name :
-        {l : List Bool} (e : ℕ) → name_rest (drop w t) ≡ some (drop e t) → l ≡ false ∷ k → after_member k (drop i t) g ≡ go (value l (drop e t) g)
+        {l : List Bool} (e : ℕ) → name_rest (drop w t) ≡ Some (drop e t) → l ≡ false ∷ k → after_member k (drop i t) g ≡ go (value l (drop e t) g)
     unfolding after_member
     member-name e n q = rw (front, h, behind-here t i, ← ws, n, q)
 

@@ -8,3 +8,4 @@ pub mod ValueSteps
 pub mod AfterSteps
 pub mod Readings
 pub mod Answers
+pub mod Founds

@@ -1,8 +1,8 @@
 -- What is read to its end is a text of the grammar.
+use Rattle.std.specs.Prelude.{None, Option, Some}
 use mathlib.Core.Path.{◌≡◌, refl, sym, subst}
 use mathlib.Core.Bool.{Bool, true, false, ◌||◌, cond}
 use mathlib.Core.List.{List, [], ◌∷◌}
-use mathlib.Core.Option.{Option, none, some}
 use Prim.Native.Nat.{ℕ, suc}
 use lib.Dec.{eqb}
 use lib.ListN.{length, drop}
@@ -51,9 +51,9 @@ by-test false x y n f h = h refl
 
 by-onward :
     {A : Type 0} (o : Option (List ℕ)) (f : List ℕ → State) (n : ℕ) →
-    ((r : List ℕ) → o ≡ some r → Means (f r) n → A) → Leads (onward o f) n → A
-by-onward none f n h m = absurd m
-by-onward (some r) f n h m = h r refl m
+    ((r : List ℕ) → o ≡ Some r → Means (f r) n → A) → Leads (onward o f) n → A
+by-onward None f n h m = absurd m
+by-onward (Some r) f n h m = h r refl m
 
 -- a value that begins with c
 from : {v : Value} {r : List ℕ} (s : List ℕ) (c : ℕ) → eqb 256 c ≡ false → eqb (byte_at s 0) c ≡ true → Val (c ∷ drop 1 s) v r → Val s v r
@@ -202,10 +202,10 @@ next-means (after [] s g) n m = no-more [] s g n (skip_ws s) (skips-ws s) m
 next-means (after (true ∷ k) s g) n m = after-item k s g n m
 next-means (after (false ∷ k) s g) n m = after-member k s g n m
 
-means : {q : State} {n : ℕ} → Run q (some n) → Means q n
+means : {q : State} {n : ℕ} → Run q (Some n) → Means q n
 means {q} (ended {g = g} e) = next-means q g (rw e)
 means {q} {n} (goes e a) = next-means q n (rw e (means a))
 
-pub runs-text : (t : List ℕ) (n : ℕ) → Run (start t) (some n) → (v : Value) × Text t v × (fault 0 v ≡ n)
+pub runs-text : (t : List ℕ) (n : ℕ) → Run (start t) (Some n) → (v : Value) × Text t v × (fault 0 v ≡ n)
 unfolding first
 runs-text t n r = let (v, u, p, h) = means r in (v, text (skips-ws t) p h.0, h.1)

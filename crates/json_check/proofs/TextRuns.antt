@@ -1,8 +1,8 @@
 -- A text of the grammar is read to its end, with its first fault; and reading ends in one way.
+use Rattle.std.specs.Prelude.{None, Option, Some}
 use mathlib.Core.Path.{◌≡◌, refl, ◌∙◌, ap, subst}
 use mathlib.Core.Bool.{Bool, true, false}
 use mathlib.Core.List.{List, [], ◌∷◌, ◌++◌}
-use mathlib.Core.Option.{Option, none, some}
 use Prim.Native.Nat.{ℕ, suc}
 use native.Mathlib.Omega.{arith}
 use lib.ListN.{length}
@@ -137,7 +137,7 @@ mutual
       (runs-members m k _ o (simp first-assoc x)))
 
 -- ---- a text
-pub text-runs : {t : List ℕ} {v : Value} → Text t v → Run (start t) (some (fault 0 v))
+pub text-runs : {t : List ℕ} {v : Value} → Text t v → Run (start t) (Some (fault 0 v))
 unfolding next of_after first goes_on is_digit within skip_ws
 text-runs (text w v z) =
     rw (skips-val w v) (runs-val v [] 0 _ (ws-ends z refl) (ended (rw (ws-skips z))))
@@ -155,7 +155,7 @@ run-one (goes e a) (stopped f) = cc
 run-one (goes {p = x} {o = o} e a) (goes {p = y} {o = p} f b) =
     let z : y ≡ x = cc in run-one a (subst (λ (s : State). Run s p) z b)
 
-pub runs_none : (t : List ℕ) → Run (start t) none → (v : Value) → Text t v → ⊥
+pub runs_none : (t : List ℕ) → Run (start t) None → (v : Value) → Text t v → ⊥
 runs_none t r v x =
-    let e : none ≡ some (fault 0 v) = run-one r (text-runs x) in
+    let e : None ≡ Some (fault 0 v) = run-one r (text-runs x) in
     let z : ◌≡◌ {A = ℕ} 0 1 = cc in omega arith

@@ -1,8 +1,8 @@
 -- What reading at a place i of a text leads to, by the byte b that stands there and by where what begins there ends.
+use Rattle.std.specs.Prelude.{None, Some}
 use mathlib.Core.Path.{◌≡◌, ap}
 use mathlib.Core.Bool.{Bool, true, false}
 use mathlib.Core.List.{List, ◌∷◌}
-use mathlib.Core.Option.{none, some}
 use Prim.Native.Nat.{ℕ, ◌+◌, ◌-◌, ◌≤◌}
 use native.Mathlib.Omega.{arith}
 use borrow.Author.Tests.{ne_eqb}
@@ -22,29 +22,29 @@ up-to-place t i e h k =
 
 -- past a string, a number or a literal that ends at e
 module _ (t : List ℕ) (i : ℕ) (k : List Bool) (g : ℕ) where
-  pub string-none : chars_rest (drop (i + 1) t) ≡ none → of_string k (drop i t) g ≡ bad
+  pub string-none : chars_rest (drop (i + 1) t) ≡ None → of_string k (drop i t) g ≡ bad
   unfolding of_string
   string-none h = rw (behind-here t i, h)
 
-  pub string-some : (e : ℕ) → chars_rest (drop (i + 1) t) ≡ some (drop e t) → of_string k (drop i t) g ≡ go (after k (drop e t) g)
+  pub string-some : (e : ℕ) → chars_rest (drop (i + 1) t) ≡ Some (drop e t) → of_string k (drop i t) g ≡ go (after k (drop e t) g)
   unfolding of_string
   string-some e h = rw (behind-here t i, h)
 
-  pub number-none : number_rest (drop i t) ≡ none → of_number k (drop i t) g ≡ bad
+  pub number-none : number_rest (drop i t) ≡ None → of_number k (drop i t) g ≡ bad
   unfolding of_number
   number-none h = rw h
 
   pub number-some :
-      (e f : ℕ) → i ≤ e → e ≤ length t → number_rest (drop i t) ≡ some (drop e t) →
+      (e f : ℕ) → i ≤ e → e ≤ length t → number_rest (drop i t) ≡ Some (drop e t) →
       f ≡ first g (number_fault (take (e - i) (drop i t))) → of_number k (drop i t) g ≡ go (after k (drop e t) f)
   unfolding of_number
   number-some e f l m h q = rw (h, q) (rw (up-to-place t i e l m))
 
-  pub literal-none : literal_rest (drop i t) ≡ none → of_literal k (drop i t) g ≡ bad
+  pub literal-none : literal_rest (drop i t) ≡ None → of_literal k (drop i t) g ≡ bad
   unfolding of_literal
   literal-none h = rw h
 
-  pub literal-some : (e : ℕ) → literal_rest (drop i t) ≡ some (drop e t) → of_literal k (drop i t) g ≡ go (after k (drop e t) g)
+  pub literal-some : (e : ℕ) → literal_rest (drop i t) ≡ Some (drop e t) → of_literal k (drop i t) g ≡ go (after k (drop e t) g)
   unfolding of_literal
   literal-some e h = rw h
 
@@ -68,12 +68,12 @@ module _
     unfolding in_object
     object-end h = rw (← ws, front-behind, h, behind-here t w, same)
 
-    pub object-no-name : (b ≡ 0x7D → ⊥) → name_rest (drop w t) ≡ none → in_object k (skip_ws (drop (i + 1) t)) g ≡ bad
+    pub object-no-name : (b ≡ 0x7D → ⊥) → name_rest (drop w t) ≡ None → in_object k (skip_ws (drop (i + 1) t)) g ≡ bad
     unfolding in_object
     object-no-name h n = rw (← ws, front-behind, ne_eqb b 0x7D h, n)
 
     pub object-name :
-        {l : List Bool} (e : ℕ) → (b ≡ 0x7D → ⊥) → name_rest (drop w t) ≡ some (drop e t) → l ≡ false ∷ k →
+        {l : List Bool} (e : ℕ) → (b ≡ 0x7D → ⊥) → name_rest (drop w t) ≡ Some (drop e t) → l ≡ false ∷ k →
         in_object k (skip_ws (drop (i + 1) t)) g ≡ go (value l (drop e t) f)
     unfolding in_object
     object-name e h n q = rw (← ws, front-behind, ne_eqb b 0x7D h, n, same, q)

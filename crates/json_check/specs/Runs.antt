@@ -1,6 +1,5 @@
 -- Reading a text from its front, one value, bracket or comma at a time. The proofs show that this reads what the grammar has.
-use Rattle.std.specs.Prelude.{◌≡◌, Bool, true, false, ◌||◌, cond, List, [], ◌∷◌, ℕ, eqb, length, drop}
-use Rattle.std.proofs.Math.Option.{Option, none, some}
+use Rattle.std.specs.Prelude.{None, Option, Some, ◌≡◌, Bool, true, false, ◌||◌, cond, List, [], ◌∷◌, ℕ, eqb, length, drop}
 use Rattle.json_text.specs.Bytes.{is_digit}
 use Rattle.json_text.specs.Refusals.{number_fault, depth_fault, first}
 use Rattle.json_text.specs.Work.{byte_at, skip_ws, chars_rest, number_rest, up_to, literal_rest, name_rest}
@@ -18,8 +17,8 @@ pub data Next : Type 0 where
   bad : Next
 
 abbrev pub onward : Option (List ℕ) → (List ℕ → State) → Next
-onward none f = bad
-onward (some r) f = go (f r)
+onward None f = bad
+onward (Some r) f = go (f r)
 
 -- behind an opening bracket and its ws
 unfoldable pub in_array : List Bool → List ℕ → ℕ → Next
@@ -73,8 +72,8 @@ next (after k s g) = of_after k (skip_ws s) g
 
 -- what is found in the end: the first fault of a text, or that there is no text
 pub data Run : State → Option ℕ → Type 0 where
-  ended : {q : State} {g : ℕ} → next q ≡ done g → Run q (some g)
-  stopped : {q : State} → next q ≡ bad → Run q none
+  ended : {q : State} {g : ℕ} → next q ≡ done g → Run q (Some g)
+  stopped : {q : State} → next q ≡ bad → Run q None
   goes : {q p : State} {o : Option ℕ} → next q ≡ go p → Run p o → Run q o
 
 abbrev pub start : List ℕ → State

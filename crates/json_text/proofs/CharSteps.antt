@@ -1,8 +1,8 @@
 -- The chars of a string, one at a time, as they are skipped.
+use Rattle.std.specs.Prelude.{None, Some}
 use mathlib.Core.Path.{◌≡◌, refl}
 use mathlib.Core.Bool.{Bool, true, false, and-false}
 use mathlib.Core.List.{List, [], ◌∷◌}
-use mathlib.Core.Option.{none, some}
 use Prim.Native.Nat.{ℕ, zero, suc, ◌≤◌, ◌<◌, zero-le}
 use native.Mathlib.Omega.{arith}
 use borrow.Author.Tests.{eqb-false, ltb-true, ltb-false, ne_eqb, eq-eqb}
@@ -79,7 +79,7 @@ char-fits s =
     plain-past = unfold plain within in refl
 
 -- more chars than there are bytes are never read
-from_past : (n : ℕ) (s : List ℕ) → length s ≤ 0 → chars_from n s ≡ none
+from_past : (n : ℕ) (s : List ℕ) → length s ≤ 0 → chars_from n s ≡ None
 unfolding chars_from
 from_past zero s h = refl
 from_past (suc n) s h = rw (byte_past s 0 h, eq-eqb (char_len s) 0 (omega (arith, char-fits s)))
@@ -98,7 +98,7 @@ from-same (suc n) (suc m) s h k = go (eqb (char_len s) 0) refl (from-same n m (d
         let z : char_len s ≡ 0 → ⊥ = eqb-false (char_len s) 0 e in
         rw (r (simp length-drop (omega arith)) (simp length-drop (omega arith)))
 
-pub chars-mark : (s : List ℕ) → eqb (byte_at s 0) 0x22 ≡ true → chars_rest s ≡ some (drop 1 s)
+pub chars-mark : (s : List ℕ) → eqb (byte_at s 0) 0x22 ≡ true → chars_rest s ≡ Some (drop 1 s)
 unfolding chars_rest chars_from
 chars-mark [] h = absurd (ff≢tt refl h)
 chars-mark (b ∷ s) h = rw h
@@ -111,7 +111,7 @@ chars-more (b ∷ s) h k =
     rw (h, ne_eqb (char_len (b ∷ s)) 0 (λ z. omega arith))
     (from-same (length s) (length (drop (char_len (b ∷ s)) (b ∷ s))) _ (simp length-drop (omega arith)) (omega arith))
 
-pub chars-bad : (s : List ℕ) → eqb (byte_at s 0) 0x22 ≡ false → char_len s ≡ 0 → chars_rest s ≡ none
+pub chars-bad : (s : List ℕ) → eqb (byte_at s 0) 0x22 ≡ false → char_len s ≡ 0 → chars_rest s ≡ None
 unfolding chars_rest chars_from
 chars-bad [] h k = refl
 chars-bad (b ∷ s) h k = rw (h, eq-eqb (char_len (b ∷ s)) 0 k)

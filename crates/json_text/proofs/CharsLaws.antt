@@ -1,8 +1,8 @@
 -- A string of the grammar is one that chars_rest reads, and stands for one run of bytes.
+use Rattle.std.specs.Prelude.{Some}
 use mathlib.Core.Path.{◌≡◌, refl, sym, ◌∙◌, ap, subst}
 use mathlib.Core.Bool.{Bool, true, false}
 use mathlib.Core.List.{List, [], ◌∷◌, ◌++◌}
-use mathlib.Core.Option.{some}
 use Prim.Native.Nat.{ℕ, zero, suc, ◌≤◌, ◌<◌}
 use native.Mathlib.Omega.{arith}
 use lib.Dec.{eqb}
@@ -15,19 +15,19 @@ use Rattle.json_text.proofs.ByteLaws.{byte-front}
 use Rattle.json_text.proofs.CharLaws.{char-len, len-char, char-front, char-one}
 use Rattle.json_text.proofs.CharSteps.{chars-mark, chars-more, chars-bad}
 
-pub chars_rest_lem : {s x r : List ℕ} → Chars s x r → chars_rest s ≡ some r
+pub chars_rest_lem : {s x r : List ℕ} → Chars s x r → chars_rest s ≡ Some r
 chars_rest_lem (mark {r}) = chars-mark (0x22 ∷ r) refl
 chars_rest_lem (char {s} c cs) =
     chars-more s (char-front c) (char-len c).0 ∙ (ap chars_rest (sym (char-len c).1) ∙ chars_rest_lem cs)
 
-nothing_read : (r : List ℕ) → chars_rest [] ≡ some r → ⊥
+nothing_read : (r : List ℕ) → chars_rest [] ≡ Some r → ⊥
 unfolding chars_rest chars_from
 nothing_read r h = let z : ◌≡◌ {A = ℕ} 0 1 = cc in omega arith
 
 abbrev Read : List ℕ → List ℕ → Type 0
 Read s r = (x : List ℕ) × Chars s x r
 
-read-mark : (s r : List ℕ) → chars_rest s ≡ some r → eqb (byte_at s 0) 0x22 ≡ true → Read s r
+read-mark : (s r : List ℕ) → chars_rest s ≡ Some r → eqb (byte_at s 0) 0x22 ≡ true → Read s r
 read-mark s r h e =
     let c = chars-mark s e in
     let q : drop 1 s ≡ r = cc in
@@ -38,14 +38,14 @@ read-char : (s r : List ℕ) → 0 < char_len s → Read (drop (char_len s) s) r
 read-char s r h t = let c = len-char s h in (c.0 ++ t.0, char c.1 t.1)
 
 -- n bounds how many bytes there are
-read : (n : ℕ) (s r : List ℕ) → length s ≤ n → chars_rest s ≡ some r → Read s r
+read : (n : ℕ) (s r : List ℕ) → length s ≤ n → chars_rest s ≡ Some r → Read s r
 read zero [] r l h = absurd (nothing_read r h)
 read zero (b ∷ s) r l h = absurd (omega arith)
 read (suc n) s r l h = go (eqb (byte_at s 0) 0x22) refl (λ k e. read n (drop (char_len s) s) r k e)
   where
     more :
         (k : ℕ) → char_len s ≡ k → eqb (byte_at s 0) 0x22 ≡ false →
-        (length (drop (char_len s) s) ≤ n → chars_rest (drop (char_len s) s) ≡ some r → Read (drop (char_len s) s) r) → Read s r
+        (length (drop (char_len s) s) ≤ n → chars_rest (drop (char_len s) s) ≡ Some r → Read (drop (char_len s) s) r) → Read s r
     more zero p e again = absurd (let b = chars-bad s e p in let z : ◌≡◌ {A = ℕ} 0 1 = cc in omega arith)
     more (suc k) p e again =
         let g : 0 < char_len s = omega arith in
@@ -53,11 +53,11 @@ read (suc n) s r l h = go (eqb (byte_at s 0) 0x22) refl (λ k e. read n (drop (c
 
     go :
         (b : Bool) → eqb (byte_at s 0) 0x22 ≡ b →
-        (length (drop (char_len s) s) ≤ n → chars_rest (drop (char_len s) s) ≡ some r → Read (drop (char_len s) s) r) → Read s r
+        (length (drop (char_len s) s) ≤ n → chars_rest (drop (char_len s) s) ≡ Some r → Read (drop (char_len s) s) r) → Read s r
     go true e again = read-mark s r h e
     go false e again = more (char_len s) refl e again
 
-pub rest-chars : (s r : List ℕ) → chars_rest s ≡ some r → (x : List ℕ) × Chars s x r
+pub rest-chars : (s r : List ℕ) → chars_rest s ≡ Some r → (x : List ℕ) × Chars s x r
 rest-chars s r h = read (length s) s r (omega arith) h
 
 chars-ended : {s x r : List ℕ} → Chars s x r → eqb (byte_at s 0) 0x22 ≡ true → x ≡ []

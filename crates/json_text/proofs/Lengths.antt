@@ -1,45 +1,19 @@
 -- Lengths of what stands at a place of a text, and the tests that they are made of.
-use mathlib.Core.Path.{◌≡◌}
+use mathlib.Core.Path.{◌≡◌, refl}
 use mathlib.Core.Bool.{true, false, ◌&&◌, cond, and-false}
 use mathlib.Core.List.{List}
-use Prim.Native.Nat.{ℕ, ◌+◌, ◌*◌, ◌≤◌, ◌<◌}
+use Prim.Native.Nat.{ℕ, ◌+◌, ◌<◌}
 use native.Mathlib.Nat.{add_assoc}
 use native.Mathlib.Omega.{arith}
-use borrow.Author.Tests.{lt-ltb, le-ltb, ne_eqb}
+use borrow.Author.Tests.{ne_eqb}
 use lib.Dec.{ltb, eqb}
 use lib.ListN.{drop}
-use Rattle.json_text.specs.Bytes.{within, plain, tail, first_of_three, first_of_four, escape_of, hex_of, hex_four, is_scalar, is_high, is_low}
+use Rattle.json_text.specs.Bytes.{within, plain, tail, first_of_three, first_of_four, escape_of, is_scalar, is_high, is_low}
 use Rattle.json_text.specs.Work.{byte_at, hex_at, pair_len, escape_len, utf8_len, special_len, char_len}
 use Rattle.json_text.proofs.Bounds.{byte-drop}
 use Rattle.json_text.proofs.Places.{byte-here}
 use Rattle.json_text.proofs.Tests.{within-high, outside_low}
-
--- what four digits write, by the digits that are read
-module _ (a b c d : ℕ) where
-  pub hex-no-first : {x : ℕ} → x ≡ hex_of a → 16 ≤ x → 65536 ≡ hex_four a b c d
-  unfolding hex_four
-  hex-no-first e h = rw (le-ltb (hex_of a) 16 (rw e at h))
-
-  pub hex-no-second : {x : ℕ} → x ≡ hex_of b → 16 ≤ x → 65536 ≡ hex_four a b c d
-  unfolding hex_four
-  hex-no-second e h = simp (le-ltb (hex_of b) 16 (rw e at h), and-false)
-
-  pub hex-no-third : {x : ℕ} → x ≡ hex_of c → 16 ≤ x → 65536 ≡ hex_four a b c d
-  unfolding hex_four
-  hex-no-third e h = simp (le-ltb (hex_of c) 16 (rw e at h), and-false)
-
-  pub hex-no-fourth : {x : ℕ} → x ≡ hex_of d → 16 ≤ x → 65536 ≡ hex_four a b c d
-  unfolding hex_four
-  hex-no-fourth e h = simp (le-ltb (hex_of d) 16 (rw e at h), and-false)
-
-  pub hex-value :
-      {x y z w : ℕ} → x ≡ hex_of a → y ≡ hex_of b → z ≡ hex_of c → w ≡ hex_of d → x < 16 → y < 16 → z < 16 → w < 16 →
-      ((x * 16 + y) * 16 + z) * 16 + w ≡ hex_four a b c d
-  unfolding hex_four
-  hex-value e f g h p q r s =
-      rw (e, f, g, h)
-      (rw
-      (lt-ltb (hex_of a) 16 (rw e at p), lt-ltb (hex_of b) 16 (rw f at q), lt-ltb (hex_of c) 16 (rw g at r), lt-ltb (hex_of d) 16 (rw h at s)))
+use Rattle.std.proofs.lemmas.Bool.Decides.{nat_tests}
 
 -- what begins a char of two bytes begins none of three or four
 module _ (a b : ℕ) (h : within 0xC2 0xDF a ≡ true) where
@@ -84,7 +58,7 @@ module _ (t : List ℕ) (n : ℕ) where
   unfolding utf8_len
   utf8-at = rw (byte-here t n, byte-drop n t 1, byte-drop n t 2, byte-drop n t 3)
 
-  pub utf8-no-tail : within 0xC2 0xDF (byte_at t n) ≡ true → tail (byte_at t (n + 1)) ≡ false → 0 ≡ utf8_len (drop n t)
+  pub utf8-no-tail : within 0xC2 0xDF (byte_at t n) ≡ true → tail (byte_at t (n + 1)) ≡ false → utf8_len (drop n t) ≡ 0
   utf8-no-tail h e = rw utf8-at (simp (e, and-false, two-not-three (byte_at t n) (byte_at t (n + 1)) h, two-not-four (byte_at t n) (byte_at t (n + 1)) h))
 
   pub char-plain : plain (byte_at t n) ≡ true → 1 ≡ char_len (drop n t)
@@ -94,3 +68,14 @@ module _ (t : List ℕ) (n : ℕ) where
   pub char-special : plain (byte_at t n) ≡ false → special_len (drop n t) ≡ char_len (drop n t)
   unfolding char_len
   char-special h = rw (byte-here t n, h)
+
+-- what four digits give that are none is no code point
+pub no_scalar : is_scalar 65536 ≡ false
+unfolding is_scalar within
+no_scalar = refl
+
+pub no_high : is_high 65536 ≡ false
+unfolding is_high within
+no_high = refl
+
+pub ruleset length_rules = (nat_tests, pair-at, escape-at, utf8-at, utf8-no-tail, no_scalar, no_high)

@@ -1,8 +1,8 @@
 -- A string that is known to be one, by its marks alone: what stands behind a backslash is passed over, and the first mark left closes it.
+use Rattle.std.specs.Prelude.{None, Option, Some}
 use mathlib.Core.Path.{◌≡◌, refl, sym, ◌∙◌, ap}
 use mathlib.Core.Bool.{Bool, true, false, ◌&&◌, ◌||◌, cond}
 use mathlib.Core.List.{List, [], ◌∷◌}
-use mathlib.Core.Option.{Option, none, some}
 use Prim.Native.Nat.{ℕ, ◌+◌, ◌≤◌, ◌<◌}
 use native.Mathlib.Omega.{arith}
 use borrow.Author.Tests.{ne_eqb}
@@ -20,9 +20,9 @@ use Rattle.json_text.proofs.Tests.{and-true, within_low}
 
 -- what follows the closing mark, and the same where a backslash stands in front
 unfoldable pub marks : List ℕ → Bool → Option (List ℕ)
-marks [] e = none
+marks [] e = None
 marks (b ∷ s) true = marks s false
-marks (b ∷ s) false = cond (eqb b 0x22) (some s) (marks s (eqb b 0x5C))
+marks (b ∷ s) false = cond (eqb b 0x22) (Some s) (marks s (eqb b 0x5C))
 
 abbrev pub marks_rest : List ℕ → Option (List ℕ)
 marks_rest s = marks s false
@@ -84,12 +84,12 @@ char-passed (pair {a} {b} {c} {d} {e} {f} {g} {h = i} {r} h) =
     let p = and-true (is_high (hex_four a b c d)) (is_low (hex_four e f g i)) h in
     hex-passed is_high a b c d _ refl p.0 ∙ hex-passed is_low e f g i r refl p.1
 
-chars-marks : {s x r : List ℕ} → Chars s x r → marks_rest s ≡ some r
+chars-marks : {s x r : List ℕ} → Chars s x r → marks_rest s ≡ Some r
 unfolding marks
 chars-marks mark = refl
 chars-marks (char c cs) = char-passed c ∙ chars-marks cs
 
-pub rest-marks : (s r : List ℕ) → chars_rest s ≡ some r → marks_rest s ≡ some r
+pub rest-marks : (s r : List ℕ) → chars_rest s ≡ Some r → marks_rest s ≡ Some r
 rest-marks s r h = chars-marks (rest-chars s r h).1
 
 behind : (s : List ℕ) → marks s true ≡ marks_rest (drop 1 s)
@@ -122,7 +122,7 @@ found-slash (a ∷ s) r b e m =
     e
 
 -- at a place of a text
-pub marks-past : (t : List ℕ) (i : ℕ) → length t ≤ i → marks_rest (drop i t) ≡ none
+pub marks-past : (t : List ℕ) (i : ℕ) → length t ≤ i → marks_rest (drop i t) ≡ None
 unfolding marks
 marks-past t i h = rw (left-past t i h)
 
@@ -148,7 +148,7 @@ module _ (t : List ℕ) (i : ℕ) (h : i < length t) where
 
 -- where the next mark or backslash of s stands
 module _ (t s : List ℕ) (i : ℕ) (f : drop i t ≡ to_mark s) (h : i < length t) where
-  pub marks-closed : get_or t i 0 ≡ 0x22 → marks_rest s ≡ some (drop (i + 1) t)
+  pub marks-closed : get_or t i 0 ≡ 0x22 → marks_rest s ≡ Some (drop (i + 1) t)
   unfolding marks
   marks-closed e = rw (marks-found s (drop i t) f, here t i h, e)
 

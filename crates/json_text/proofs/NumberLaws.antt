@@ -1,8 +1,8 @@
 -- A number of the grammar that nothing lengthens is one that number_rest reads.
+use Rattle.std.specs.Prelude.{None, Option, Some}
 use mathlib.Core.Path.{◌≡◌, refl, sym, ◌∙◌, ap}
 use mathlib.Core.Bool.{Bool, true, false, ◌||◌, cond, or-true}
 use mathlib.Core.List.{List, [], ◌∷◌, ◌++◌, append_assoc}
-use mathlib.Core.Option.{Option, none, some}
 use Prim.Native.Nat.{ℕ, ◌-◌, ◌≤◌}
 use native.Mathlib.Omega.{arith}
 use borrow.Author.Tests.{ne_eqb, eqb-true}
@@ -60,15 +60,15 @@ unfolding skip_digits
 skip-none [] h = refl
 skip-none (b ∷ r) h = rw h
 
-digits1-rest : {s r : List ℕ} → Digits1 s r → is_digit (byte_at r 0) ≡ false → digits1_rest s ≡ some r
+digits1-rest : {s r : List ℕ} → Digits1 s r → is_digit (byte_at r 0) ≡ false → digits1_rest s ≡ Some r
 unfolding digits1_rest
-digits1-rest {r = r} (digits h d) e = rw h (ap some (digits-skip d ∙ skip-none r e))
+digits1-rest {r = r} (digits h d) e = rw h (ap Some (digits-skip d ∙ skip-none r e))
 
-int-rest : {s r : List ℕ} → Int s r → is_digit (byte_at r 0) ≡ false → int_rest s ≡ some r
+int-rest : {s r : List ℕ} → Int s r → is_digit (byte_at r 0) ≡ false → int_rest s ≡ Some r
 unfolding int_rest
 int-rest zero e = refl
 int-rest {r = r} (from_one {b} h d) e =
-    rw (ne_eqb b 0x30 (λ x. omega (arith, within_low 0x31 0x39 b h)), h) (ap some (digits-skip d ∙ skip-none r e))
+    rw (ne_eqb b 0x30 (λ x. omega (arith, within_low 0x31 0x39 b h)), h) (ap Some (digits-skip d ∙ skip-none r e))
 
 int-front : {s r : List ℕ} → Int s r → is_digit (byte_at s 0) ≡ true
 unfolding is_digit within
@@ -90,12 +90,12 @@ sign-skip positive d = refl
 sign-skip no_sign (digits {b} h d) =
     rw (ne_eqb b 0x2D (λ x. omega (arith, digit_low b h)), ne_eqb b 0x2B (λ x. omega (arith, digit_low b h)))
 
-frac-rest : {s r : List ℕ} → Frac s r → is_digit (byte_at r 0) ≡ false → eqb (byte_at r 0) 0x2E ≡ false → frac_rest s ≡ some r
+frac-rest : {s r : List ℕ} → Frac s r → is_digit (byte_at r 0) ≡ false → eqb (byte_at r 0) 0x2E ≡ false → frac_rest s ≡ Some r
 unfolding frac_rest
 frac-rest no_frac d p = rw p
 frac-rest (frac x) d p = digits1-rest x d
 
-exp-rest : {s r : List ℕ} → Exp s r → Stops (byte_at r 0) → exp_rest s ≡ some r
+exp-rest : {s r : List ℕ} → Exp s r → Stops (byte_at r 0) → exp_rest s ≡ Some r
 unfolding exp_rest
 exp-rest no_exp e = rw (e.small, e.large)
 exp-rest (exp h s d) e = rw (h, sign-skip s d) (digits1-rest d e.digit)
@@ -117,7 +117,7 @@ unfolding is_digit within
 frac-front no_frac h = h
 frac-front (frac d) h = refl
 
-pub number-rest : {s r : List ℕ} → Number s r → goes_on (byte_at r 0) ≡ false → number_rest s ≡ some r
+pub number-rest : {s r : List ℕ} → Number s r → goes_on (byte_at r 0) ≡ false → number_rest s ≡ Some r
 unfolding number_rest
 number-rest {r = r} (number m i f e) h =
     let p = stops (byte_at r 0) h in
@@ -139,27 +139,27 @@ skip-digits (b ∷ s) = go (is_digit b) refl (skip-digits s)
     go true e d = rw e (digit e d)
     go false e d = rw e no_digits
 
-rest-digits1 : (s r : List ℕ) → digits1_rest s ≡ some r → Digits1 s r
+rest-digits1 : (s r : List ℕ) → digits1_rest s ≡ Some r → Digits1 s r
 unfolding digits1_rest is_digit within
 rest-digits1 [] r h = no-some h
 rest-digits1 (b ∷ s) r h = go (is_digit b) refl h
   where
-    go : (x : Bool) → is_digit b ≡ x → cond x (some (skip_digits s)) none ≡ some r → Digits1 (b ∷ s) r
+    go : (x : Bool) → is_digit b ≡ x → cond x (Some (skip_digits s)) None ≡ Some r → Digits1 (b ∷ s) r
     go true e k = rw (same k) at (digits {b = b} e (skip-digits s))
     go false e k = no-some k
 
-rest-int : (s r : List ℕ) → int_rest s ≡ some r → Int s r
+rest-int : (s r : List ℕ) → int_rest s ≡ Some r → Int s r
 unfolding int_rest within
 rest-int [] r h = no-some h
 rest-int (b ∷ s) r h = go (eqb b 0x30) refl h
   where
     more :
-        (x : Bool) → within 0x31 0x39 b ≡ x → cond x (some (skip_digits s)) none ≡ some r → Int (b ∷ s) r
+        (x : Bool) → within 0x31 0x39 b ≡ x → cond x (Some (skip_digits s)) None ≡ Some r → Int (b ∷ s) r
     more true e k = rw (same k) at (from_one {b = b} e (skip-digits s))
     more false e k = no-some k
 
     go :
-        (x : Bool) → eqb b 0x30 ≡ x → cond x (some s) (cond (within 0x31 0x39 b) (some (skip_digits s)) none) ≡ some r → Int (b ∷ s) r
+        (x : Bool) → eqb b 0x30 ≡ x → cond x (Some s) (cond (within 0x31 0x39 b) (Some (skip_digits s)) None) ≡ Some r → Int (b ∷ s) r
     go true e k = rw (eqb-true b 0x30 e, same k) zero
     go false e k = more (within 0x31 0x39 b) refl k
 
@@ -185,35 +185,35 @@ skip-sign (b ∷ s) = go (eqb b 0x2D) refl
     go true e = rw (e, eqb-true b 0x2D e) negative
     go false e = rw e (plus (eqb b 0x2B) refl)
 
-rest-frac : (s r : List ℕ) → frac_rest s ≡ some r → Frac s r
+rest-frac : (s r : List ℕ) → frac_rest s ≡ Some r → Frac s r
 unfolding frac_rest
 rest-frac [] r h = rw (← (same h)) no_frac
 rest-frac (b ∷ s) r h = go (eqb b 0x2E) refl h
   where
-    go : (x : Bool) → eqb b 0x2E ≡ x → cond x (digits1_rest s) (some (b ∷ s)) ≡ some r → Frac (b ∷ s) r
+    go : (x : Bool) → eqb b 0x2E ≡ x → cond x (digits1_rest s) (Some (b ∷ s)) ≡ Some r → Frac (b ∷ s) r
     go true e k = rw (eqb-true b 0x2E e) (frac (rest-digits1 s r k))
     go false e k = rw (same k) no_frac
 
-rest-exp : (s r : List ℕ) → exp_rest s ≡ some r → Exp s r
+rest-exp : (s r : List ℕ) → exp_rest s ≡ Some r → Exp s r
 unfolding exp_rest
 rest-exp [] r h = rw (← (same h)) no_exp
 rest-exp (b ∷ s) r h = go (eqb b 0x65 || eqb b 0x45) refl h
   where
-    go : (x : Bool) → (eqb b 0x65 || eqb b 0x45) ≡ x → cond x (digits1_rest (skip_sign s)) (some (b ∷ s)) ≡ some r → Exp (b ∷ s) r
+    go : (x : Bool) → (eqb b 0x65 || eqb b 0x45) ≡ x → cond x (digits1_rest (skip_sign s)) (Some (b ∷ s)) ≡ Some r → Exp (b ∷ s) r
     go true e k = exp e (skip-sign s) (rest-digits1 (skip_sign s) r k)
     go false e k = rw (same k) no_exp
 
-pub rest-number : (s r : List ℕ) → number_rest s ≡ some r → Number s r
+pub rest-number : (s r : List ℕ) → number_rest s ≡ Some r → Number s r
 unfolding number_rest
 rest-number s r h = go (int_rest (skip_minus s)) refl h
   where
-    point : (b : List ℕ) (o : Option (List ℕ)) → frac_rest b ≡ o → int_rest (skip_minus s) ≡ some b → and_then o exp_rest ≡ some r → Number s r
-    point b none e i k = no-some k
-    point b (some c) e i k = number (skip-minus s) (rest-int (skip_minus s) b i) (rest-frac b c e) (rest-exp c r k)
+    point : (b : List ℕ) (o : Option (List ℕ)) → frac_rest b ≡ o → int_rest (skip_minus s) ≡ Some b → and_then o exp_rest ≡ Some r → Number s r
+    point b None e i k = no-some k
+    point b (Some c) e i k = number (skip-minus s) (rest-int (skip_minus s) b i) (rest-frac b c e) (rest-exp c r k)
 
-    go : (o : Option (List ℕ)) → int_rest (skip_minus s) ≡ o → and_then (and_then o frac_rest) exp_rest ≡ some r → Number s r
-    go none e k = no-some k
-    go (some b) e k = point b (frac_rest b) refl e k
+    go : (o : Option (List ℕ)) → int_rest (skip_minus s) ≡ o → and_then (and_then o frac_rest) exp_rest ≡ Some r → Number s r
+    go None e k = no-some k
+    go (Some b) e k = point b (frac_rest b) refl e k
 
 -- the number's text
 

@@ -1,8 +1,8 @@
 -- The parts of a number at a place of a text, by the byte b that stands there.
+use Rattle.std.specs.Prelude.{None, Some}
 use mathlib.Core.Path.{◌≡◌}
 use mathlib.Core.Bool.{true, false}
 use mathlib.Core.List.{List}
-use mathlib.Core.Option.{none, some}
 use Prim.Native.Nat.{ℕ, ◌+◌, ◌≤◌}
 use native.Mathlib.Omega.{arith}
 use borrow.Author.Tests.{ne_eqb}
@@ -36,23 +36,23 @@ module _ (t : List ℕ) (i b : ℕ) (e : b ≡ byte_at t i) where
   unfolding skip_sign
   sign-no h k = rw (front, ne_eqb b 0x2D h, ne_eqb b 0x2B k)
 
-  pub digits1-yes : is_digit b ≡ true → digits1_rest (drop i t) ≡ some (skip_digits (drop (i + 1) t))
+  pub digits1-yes : is_digit b ≡ true → digits1_rest (drop i t) ≡ Some (skip_digits (drop (i + 1) t))
   unfolding digits1_rest
   digits1-yes h = rw (front, h, behind-here t i)
 
-  pub digits1-no : is_digit b ≡ false → digits1_rest (drop i t) ≡ none
+  pub digits1-no : is_digit b ≡ false → digits1_rest (drop i t) ≡ None
   unfolding digits1_rest
   digits1-no h = rw (front, h)
 
-  pub int-zero : b ≡ 0x30 → int_rest (drop i t) ≡ some (drop (i + 1) t)
+  pub int-zero : b ≡ 0x30 → int_rest (drop i t) ≡ Some (drop (i + 1) t)
   unfolding int_rest
   int-zero h = rw (front, h, behind-here t i)
 
-  pub int-more : (b ≡ 0x30 → ⊥) → within 0x31 0x39 b ≡ true → int_rest (drop i t) ≡ some (skip_digits (drop (i + 1) t))
+  pub int-more : (b ≡ 0x30 → ⊥) → within 0x31 0x39 b ≡ true → int_rest (drop i t) ≡ Some (skip_digits (drop (i + 1) t))
   unfolding int_rest
   int-more h k = rw (front, ne_eqb b 0x30 h, k, behind-here t i)
 
-  pub int-none : (b ≡ 0x30 → ⊥) → within 0x31 0x39 b ≡ false → int_rest (drop i t) ≡ none
+  pub int-none : (b ≡ 0x30 → ⊥) → within 0x31 0x39 b ≡ false → int_rest (drop i t) ≡ None
   unfolding int_rest
   int-none h k = rw (front, ne_eqb b 0x30 h, k)
 
@@ -60,7 +60,7 @@ module _ (t : List ℕ) (i b : ℕ) (e : b ≡ byte_at t i) where
   unfolding frac_rest
   frac-yes h = rw (front, h, behind-here t i)
 
-  pub frac-no : (b ≡ 0x2E → ⊥) → frac_rest (drop i t) ≡ some (drop i t)
+  pub frac-no : (b ≡ 0x2E → ⊥) → frac_rest (drop i t) ≡ Some (drop i t)
   unfolding frac_rest
   frac-no h = rw (front, ne_eqb b 0x2E h)
 
@@ -72,7 +72,7 @@ module _ (t : List ℕ) (i b : ℕ) (e : b ≡ byte_at t i) where
   unfolding exp_rest
   exp-large h = rw (front, h, behind-here t i)
 
-  pub exp-no : (b ≡ 0x65 → ⊥) → (b ≡ 0x45 → ⊥) → exp_rest (drop i t) ≡ some (drop i t)
+  pub exp-no : (b ≡ 0x65 → ⊥) → (b ≡ 0x45 → ⊥) → exp_rest (drop i t) ≡ Some (drop i t)
   unfolding exp_rest
   exp-no h k = rw (front, ne_eqb b 0x65 h, ne_eqb b 0x45 k)
 
@@ -81,14 +81,14 @@ module _ (t : List ℕ) (i b : ℕ) (e : b ≡ byte_at t i) where
 
 -- the parts one after another: s with its minus skipped is m, with the whole part w is left, with the fraction p
 module _ (s m : List ℕ) (e : m ≡ skip_minus s) where
-  pub number-no-int : int_rest m ≡ none → number_rest s ≡ none
+  pub number-no-int : int_rest m ≡ None → number_rest s ≡ None
   unfolding number_rest
   number-no-int h = rw (← e, h)
 
-  pub number-no-frac : {w : List ℕ} → int_rest m ≡ some w → frac_rest w ≡ none → number_rest s ≡ none
+  pub number-no-frac : {w : List ℕ} → int_rest m ≡ Some w → frac_rest w ≡ None → number_rest s ≡ None
   unfolding number_rest
   number-no-frac h k = rw (← e, h, k)
 
-  pub number-exp : {w p : List ℕ} → int_rest m ≡ some w → frac_rest w ≡ some p → number_rest s ≡ exp_rest p
+  pub number-exp : {w p : List ℕ} → int_rest m ≡ Some w → frac_rest w ≡ Some p → number_rest s ≡ exp_rest p
   unfolding number_rest
   number-exp h k = rw (← e, h, k)

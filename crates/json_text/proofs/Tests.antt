@@ -1,17 +1,17 @@
 -- Tests on bytes, taken apart, and what a call's answer says of one.
+use Rattle.std.specs.Prelude.{None, Option, Some}
 use mathlib.Core.Path.{◌≡◌, refl, sym, ◌∙◌, ap}
 use mathlib.Core.Bool.{Bool, true, false, ◌&&◌}
-use mathlib.Core.Option.{Option, none, some}
 use Prim.Native.Nat.{ℕ, ◌≤◌, ◌<◌}
 use borrow.Author.Tests.{leb-true, le-leb, lt-leb}
 use lib.Dec.{leb}
 use Rattle.json_text.specs.Bytes.{within, is_digit}
 use Rattle.rules.proofs.Tests.{and-true-left, and-true-right, none≢some}
 
-pub same : {A : Type 0} {x y : A} → some x ≡ some y → x ≡ y
+pub same : {A : Type 0} {x y : A} → Some x ≡ Some y → x ≡ y
 same e = cc
 
-pub no-some : {A B : Type 0} {x : A} → ◌≡◌ {A = Option A} none (some x) → B
+pub no-some : {A B : Type 0} {x : A} → ◌≡◌ {A = Option A} None (Some x) → B
 no-some e = absurd (none≢some e)
 
 pub and-true : (a b : Bool) → (a && b) ≡ true → (a ≡ true) × (b ≡ true)

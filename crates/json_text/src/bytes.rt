@@ -3,23 +3,21 @@ ghost use Rattle.std.specs.Prelude.{◌≡◌, ◌≤◌, length, drop};
 ghost use Rattle.json_text.specs.Bytes.{within, is_ws, is_digit};
 ghost use Rattle.json_text.specs.Work.{byte_at, skip_ws};
 
-fn wide(b: u8) -> u32
-    ensures { result ≡ b }
-{
-    b as u32
-}
-
-// The byte at a place, 256 behind the last.
+// The byte at a place, 256 behind the last: one number, so that each test of what stands at a place is one comparison.
 pub fn byte(text: &[u8], at: usize) -> u32
     ensures { result ≡ byte_at text.now at }
 {
-    if at < text.len() { wide(text[at]) } else { 256 }
+    if at < text.len() {
+        u32::from(text[at])
+    } else {
+        256
+    }
 }
 
 pub fn within(low: u32, high: u32, b: u32) -> bool
     ensures { result ≡ within low high b }
 {
-    if low <= b { b <= high } else { false }
+    low <= b && b <= high
 }
 
 pub fn is_digit(b: u32) -> bool
@@ -28,19 +26,11 @@ pub fn is_digit(b: u32) -> bool
     within(0x30, 0x39, b)
 }
 
+#[tactic(auto, using(std::proofs::lemmas::Bool::Decides::nat_tests), unfolding(crate::specs::Bytes::is_ws))]
 fn is_ws(b: u32) -> bool
     ensures { result ≡ is_ws b }
 {
-    if b == 0x20 {
-        return true;
-    }
-    if b == 0x09 {
-        return true;
-    }
-    if b == 0x0A {
-        return true;
-    }
-    b == 0x0D
+    matches!(b, 0x20 | 0x09 | 0x0A | 0x0D)
 }
 
 // The first place from at on that holds no ws.
@@ -48,12 +38,10 @@ pub fn skip_ws(text: &[u8], at: usize) -> usize
     requires { at ≤ length text.now }
     ensures { (drop result text.now ≡ skip_ws (drop at text.now)) × (at ≤ result) × (result ≤ length text.now) }
 {
-    let mut i = at;
-    while i < text.len() {
-        if !is_ws(wide(text[i])) {
+    for i in at..text.len() {
+        if !is_ws(u32::from(text[i])) {
             return i;
         }
-        i += 1;
     }
-    i
+    text.len()
 }

@@ -3,29 +3,24 @@ ghost use Rattle.std.specs.Prelude.{◌≡◌, ◌+◌, ◌≤◌, length, drop}
 ghost use Rattle.json_text.specs.Refusals.{longest};
 ghost use Rattle.json_text.specs.Work.{word_rest, literal_rest, colon_rest, name_rest, Ends};
 
-use crate::End;
 use crate::bytes::{byte, skip_ws};
 use crate::strings::string_end;
 
 // The place behind a word that is to stand at a place.
-fn word_end(text: &[u8], at: usize, word: &[u8]) -> End
+fn word_end(text: &[u8], at: usize, word: &[u8]) -> Option<usize>
     requires { at ≤ length text.now }
     ensures { Ends text.now at (word_rest word.now (drop at text.now)) result }
 {
-    let mut i: usize = 0;
-    let mut end = at;
-    while i < word.len() {
-        if byte(text, end) != byte(word, i) {
-            return End::Nowhere;
+    for i in 0..word.len() {
+        if byte(text, at + i) != byte(word, i) {
+            return None;
         }
-        end += 1;
-        i += 1;
     }
-    End::At(end)
+    Some(at + word.len())
 }
 
 // The place behind null, true or false.
-pub fn literal_end(text: &[u8], at: usize) -> End
+pub fn literal_end(text: &[u8], at: usize) -> Option<usize>
     requires { at ≤ length text.now }
     ensures { Ends text.now (at + 1) (literal_rest (drop at text.now)) result }
 {
@@ -39,31 +34,29 @@ pub fn literal_end(text: &[u8], at: usize) -> End
     if b == 0x66 {
         return word_end(text, at + 1, b"alse");
     }
-    End::Nowhere
+    None
 }
 
 // The place behind the colon at a place and the ws that follows it.
-fn colon_end(text: &[u8], at: usize) -> End
+fn colon_end(text: &[u8], at: usize) -> Option<usize>
     requires { at ≤ length text.now }
     ensures { Ends text.now (at + 1) (colon_rest (drop at text.now)) result }
 {
     if byte(text, at) == 0x3A {
-        End::At(skip_ws(text, at + 1))
+        Some(skip_ws(text, at + 1))
     } else {
-        End::Nowhere
+        None
     }
 }
 
 // The place where the value of the member at a place begins.
-pub fn name_end(text: &[u8], at: usize) -> End
+pub fn name_end(text: &[u8], at: usize) -> Option<usize>
     requires { (at ≤ length text.now) × (length text.now ≤ longest) }
     ensures { Ends text.now (at + 1) (name_rest (drop at text.now)) result }
 {
     if byte(text, at) != 0x22 {
-        return End::Nowhere;
+        return None;
     }
-    let End::At(end) = string_end(text, at + 1) else {
-        return End::Nowhere;
-    };
+    let end = string_end(text, at + 1)?;
     colon_end(text, skip_ws(text, end))
 }

@@ -14,40 +14,30 @@ ghost use Rattle.json_text.specs.Work.{
   decimal_of,
 };
 
-use crate::End;
 use crate::bytes::{byte, is_digit, within};
-
-// What a run of digits writes: a number of 64 bits; else, and where a byte is no digit, nothing.
-#[derive(Clone, Copy)]
-pub enum Decimal {
-    Number(u64),
-    Outside,
-}
 
 // The first place from at on that holds no digit.
 fn digits_end(text: &[u8], at: usize) -> usize
     requires { at ≤ length text.now }
     ensures { (drop result text.now ≡ skip_digits (drop at text.now)) × (at ≤ result) × (result ≤ length text.now) }
 {
-    let mut i = at;
-    while i < text.len() {
+    for i in at..text.len() {
         if !is_digit(byte(text, i)) {
             return i;
         }
-        i += 1;
     }
-    i
+    text.len()
 }
 
 // The same, for one digit or more.
-fn digits1_end(text: &[u8], at: usize) -> End
+fn digits1_end(text: &[u8], at: usize) -> Option<usize>
     requires { at ≤ length text.now }
     ensures { Ends text.now (at + 1) (digits1_rest (drop at text.now)) result }
 {
     if is_digit(byte(text, at)) {
-        End::At(digits_end(text, at + 1))
+        Some(digits_end(text, at + 1))
     } else {
-        End::Nowhere
+        None
     }
 }
 
@@ -63,90 +53,73 @@ fn after_sign(text: &[u8], at: usize) -> usize
     ensures { (drop result text.now ≡ skip_sign (drop at text.now)) × (at ≤ result) × (result ≤ length text.now) }
 {
     let b = byte(text, at);
-    if b == 0x2D {
+    if b == 0x2D || b == 0x2B {
         return at + 1;
     }
-    if b == 0x2B { at + 1 } else { at }
+    at
 }
 
-fn int_end(text: &[u8], at: usize) -> End
+fn int_end(text: &[u8], at: usize) -> Option<usize>
     requires { at ≤ length text.now }
     ensures { Ends text.now (at + 1) (int_rest (drop at text.now)) result }
 {
     let b = byte(text, at);
     if b == 0x30 {
-        return End::At(at + 1);
+        return Some(at + 1);
     }
     if within(0x31, 0x39, b) {
-        End::At(digits_end(text, at + 1))
+        Some(digits_end(text, at + 1))
     } else {
-        End::Nowhere
+        None
     }
 }
 
-fn frac_end(text: &[u8], at: usize) -> End
+fn frac_end(text: &[u8], at: usize) -> Option<usize>
     requires { at ≤ length text.now }
     ensures { Ends text.now at (frac_rest (drop at text.now)) result }
 {
     if byte(text, at) == 0x2E {
         digits1_end(text, at + 1)
     } else {
-        End::At(at)
+        Some(at)
     }
 }
 
-fn exp_end(text: &[u8], at: usize) -> End
+fn exp_end(text: &[u8], at: usize) -> Option<usize>
     requires { at ≤ length text.now }
     ensures { Ends text.now at (exp_rest (drop at text.now)) result }
 {
     let b = byte(text, at);
-    if b == 0x65 {
+    if b == 0x65 || b == 0x45 {
         return digits1_end(text, after_sign(text, at + 1));
     }
-    if b == 0x45 {
-        return digits1_end(text, after_sign(text, at + 1));
-    }
-    End::At(at)
+    Some(at)
 }
 
 // The place behind the number at a place, read as far as it goes.
-pub fn number_end(text: &[u8], at: usize) -> End
+pub fn number_end(text: &[u8], at: usize) -> Option<usize>
     requires { at ≤ length text.now }
     ensures { Ends text.now (at + 1) (number_rest (drop at text.now)) result }
 {
-    let End::At(whole) = int_end(text, after_minus(text, at)) else {
-        return End::Nowhere;
-    };
-    let End::At(point) = frac_end(text, whole) else {
-        return End::Nowhere;
-    };
+    let whole = int_end(text, after_minus(text, at))?;
+    let point = frac_end(text, whole)?;
     exp_end(text, point)
 }
 
-// The number that the bytes from one place up to another write.
-#[tactic(auto, using(crate::proofs::DecimalLaws::digits_large))]
-fn decimal_of(text: &[u8], from: usize, to: usize) -> Decimal
+// The number of 64 bits that the bytes from one place up to another write; none where a byte is no digit, or the number is greater.
+fn decimal_of(text: &[u8], from: usize, to: usize) -> Option<u64>
     requires { (from ≤ to) × (to ≤ length text.now) }
     ensures { result ≡ decimal_of (take (to - from) (drop from text.now)) }
 {
     let mut n: u64 = 0;
-    let mut i = from;
-    while i < to {
+    for i in from..to {
         let b = byte(text, i);
         if !is_digit(b) {
-            return Decimal::Outside;
+            return None;
         }
-        if 1844674407370955161 < n {
-            return Decimal::Outside;
-        }
-        let digit = (b - 0x30) as u64;
-        if 18446744073709551615 - n * 10 < digit {
-            return Decimal::Outside;
-        }
-        n = n * 10 + digit;
-        i += 1;
+        n = n.checked_mul(10)?.checked_add(u64::from(b - 0x30))?;
     }
-    Decimal::Number(n)
+    Some(n)
 }
 
 // Whether the number between two places is whole and within the bounds.
@@ -157,18 +130,10 @@ pub fn number_allowed(text: &[u8], from: usize, to: usize) -> bool
 {
     if text[from] == 0x2D {
         match decimal_of(text, from + 1, to) {
-            Decimal::Number(n) => {
-                if n < 1 {
-                    return false;
-                }
-                n <= 0x8000_0000_0000_0000
-            }
-            Decimal::Outside => false,
+            Some(n) => 1 <= n && n <= 0x8000_0000_0000_0000,
+            None => false,
         }
     } else {
-        match decimal_of(text, from, to) {
-            Decimal::Number(_) => true,
-            Decimal::Outside => false,
-        }
+        decimal_of(text, from, to).is_some()
     }
 }

@@ -20,14 +20,13 @@ pub fn key_of(bytes: &[u8]) -> EventKey
     let len = bytes.len() as u64;
     let mut first = State::new();
     let mut second = State::new().compress(SECOND);
-    let mut at = 0;
-    while 8 <= bytes.len() - at {
-        let m = load::load64(bytes, at);
+    let words = bytes.len() / 8;
+    for i in 0..words {
+        let m = load::load64(bytes, 8 * i);
         first = first.compress(m);
         second = second.compress(m);
-        at += 8;
     }
-    let rest = load::load_rest(bytes, at);
+    let rest = load::load_rest(bytes, 8 * words);
     let k0 = first.finish(rest, len);
     let k1 = second.finish(rest, len + 8);
     EventKey(k0, k1)

@@ -2,22 +2,15 @@
 ghost use Rattle.std.specs.Prelude.{◌≡◌, ◌+◌, ◌^◌, ◌<◌, ◌≤◌, length, take, drop};
 ghost use Rattle.keys.specs.Sip.{little_endian};
 
-// A byte as a word.
-fn wide(b: u8) -> u64
-    ensures { (result ≡ b) × (result < 256) }
-{
-    b as u64
-}
-
 // The four bytes from at on.
 fn load32(s: &[u8], at: usize) -> u64
     requires { at + 4 ≤ length s.now }
     ensures { (result ≡ little_endian (take 4 (drop at s.now))) × (result < 2 ^ 32) }
 {
-    wide(s[at])
-        + wide(s[at + 1]) * 0x100
-        + wide(s[at + 2]) * 0x1_0000
-        + wide(s[at + 3]) * 0x100_0000
+    u64::from(s[at])
+        + u64::from(s[at + 1]) * 0x100
+        + u64::from(s[at + 2]) * 0x1_0000
+        + u64::from(s[at + 3]) * 0x100_0000
 }
 
 // The eight bytes from at on.
@@ -34,10 +27,8 @@ pub fn load_rest(s: &[u8], at: usize) -> u64
     ensures { (result ≡ little_endian (drop at s.now)) × (result < 2 ^ 56) }
 {
     let mut w: u64 = 0;
-    let mut k = s.len();
-    while at < k {
-        k -= 1;
-        w = w * 256 + wide(s[k]);
+    for k in (at..s.len()).rev() {
+        w = w * 256 + u64::from(s[k]);
     }
     w
 }

@@ -11,7 +11,7 @@ pub struct State {
     pub v3: u64,
 }
 
-// x turned left by k bits.
+// x turned left by k bits. A rule of the project: its rounds turn by a helper of its own, not by `rotate_left`.
 fn rotl(x: u64, k: u32) -> u64
     requires { (0 < k) × (k < 64) }
     ensures { result ≡ rotated x k }
@@ -36,15 +36,15 @@ impl State {
     fn round(self) -> Self
         ensures { result ≡ sip_round self }
     {
-        let mut v0 = std::num::wrapping_add_u64(self.v0, self.v1);
-        let mut v2 = std::num::wrapping_add_u64(self.v2, self.v3);
+        let mut v0 = self.v0.wrapping_add(self.v1);
+        let mut v2 = self.v2.wrapping_add(self.v3);
         let mut v1 = rotl(self.v1, 13);
         let mut v3 = rotl(self.v3, 16);
         v1 ^= v0;
         v3 ^= v2;
         v0 = rotl(v0, 32);
-        v2 = std::num::wrapping_add_u64(v2, v1);
-        v0 = std::num::wrapping_add_u64(v0, v3);
+        v2 = v2.wrapping_add(v1);
+        v0 = v0.wrapping_add(v3);
         v1 = rotl(v1, 17);
         v3 = rotl(v3, 21);
         v1 ^= v2;
@@ -58,18 +58,11 @@ impl State {
         ensures { result ≡ compressed self m }
     {
         let s = Self {
-            v0: self.v0,
-            v1: self.v1,
-            v2: self.v2,
             v3: self.v3 ^ m,
+            ..self
         };
         let t = s.round();
-        Self {
-            v0: t.v0 ^ m,
-            v1: t.v1,
-            v2: t.v2,
-            v3: t.v3,
-        }
+        Self { v0: t.v0 ^ m, ..t }
     }
 
     // The hash, once the last word is taken in.
@@ -77,10 +70,8 @@ impl State {
         ensures { result ≡ finalized self }
     {
         let s = Self {
-            v0: self.v0,
-            v1: self.v1,
             v2: self.v2 ^ 0xff,
-            v3: self.v3,
+            ..self
         };
         let t = s.round().round().round();
         t.v0 ^ t.v1 ^ t.v2 ^ t.v3

@@ -19,10 +19,8 @@ fn line(rt: &impl Print, message: &[u8]) -> io::Result<()> {
 fn lines(rt: &impl Print, text: &[u8], least: usize, most: usize) -> io::Result<()>
     requires { most ≤ length text.now }
 {
-    let mut n = least;
-    while n <= most {
-        line(rt, &text[0..n])?;
-        n += 1;
+    for n in least..=most {
+        line(rt, &text[..n])?;
     }
     Ok(())
 }
@@ -31,10 +29,8 @@ fn lines(rt: &impl Print, text: &[u8], least: usize, most: usize) -> io::Result<
 fn count(text: &mut [u8], times: usize, plus: usize)
     requires { (length text.old ≤ 65536) × (times ≤ 255) × (plus ≤ 255) }
 {
-    let mut i = 0;
-    while i < text.len() {
-        text[i] = ((i * times + plus) % 256) as u8;
-        i += 1;
+    for (i, byte) in text.iter_mut().enumerate() {
+        *byte = ((i * times + plus) % 256) as u8;
     }
 }
 
@@ -50,11 +46,9 @@ fn random(text: &mut [u8], n: usize, x: u64) -> u64
     requires { n ≤ length text.old }
 {
     let mut y = x;
-    let mut i = 0;
-    while i < n {
+    for byte in &mut text[..n] {
         y = next(y);
-        text[i] = (y % 256) as u8;
-        i += 1;
+        *byte = (y % 256) as u8;
     }
     y
 }
@@ -65,13 +59,11 @@ fn random_lines(rt: &impl Print, text: &mut [u8]) -> io::Result<()>
     requires { 1000 ≤ length text.old }
 {
     let mut x: u64 = 1;
-    let mut k: usize = 0;
-    while k < 20 {
+    for _ in 0..20 {
         x = next(x);
         let n = (x % 1000) as usize;
         x = random(text, n, x);
-        line(rt, &text[0..n])?;
-        k += 1;
+        line(rt, &text[..n])?;
     }
     Ok(())
 }

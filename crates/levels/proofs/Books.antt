@@ -1,13 +1,13 @@
 -- A depth of two sides: what a sound one says of each side, and what each call answers of a sound one and of one that is not.
+use Rattle.std.specs.Prelude.{Option}
 use mathlib.Core.Path.{◌≡◌}
 use mathlib.Core.Bool.{Bool, true, false}
-use mathlib.Core.Option.{Option}
 use Prim.Native.Nat.{ℕ}
 use lib.Ieee.{Float}
 use Rattle.rules.specs.Answers.{refusal, value}
 use Rattle.rules.proofs.Tests.{and-true-left, and-true-right}
 use Rattle.levels.specs.Depth.{side_sound, set_side, trim_side, bid_depth_from, ask_depth_to, best_of, Book, side_of, sound, with_side}
-use Rattle.levels.specs.Depth.{whole, set, trim, best, bids_from, asks_to}
+use Rattle.levels.specs.Depth.{whole, set, trim, best, levels, bids_from, asks_to}
 
 module _ (b : Book) where
   pub sound-bids : sound b ≡ true → side_sound true b.bids ≡ true
@@ -50,6 +50,14 @@ module _ (b : Book) where
   pub best-done : (bid : Bool) → sound b ≡ true → best bid b ≡ value (best_of (side_of bid b))
   unfolding best
   best-done bid e = rw e
+
+  pub levels-unsound : (bid : Bool) → sound b ≡ false → levels bid b ≡ refusal 1
+  unfolding levels
+  levels-unsound bid e = rw e
+
+  pub levels-done : (bid : Bool) → sound b ≡ true → levels bid b ≡ value (side_of bid b)
+  unfolding levels
+  levels-done bid e = rw e
 
   pub bids_from-unsound : (floor : ℕ) → sound b ≡ false → bids_from floor b ≡ refusal 1
   unfolding bids_from

@@ -1,60 +1,46 @@
--- A search by halving: the prices before the low end are better than the one sought, and those from the high end on are not.
+-- The place of a price: the prices before it are better than the one sought, and those from it on are not.
 -- And what the place that is found says of the prices at the one sought or better.
 use mathlib.Core.Path.{◌≡◌, sym, ◌∙◌}
 use mathlib.Core.Logic.{⊎_elim}
 use mathlib.Core.Bool.{Bool, true, false, ◌&&◌}
 use mathlib.Core.List.{List}
-use Prim.Native.Nat.{ℕ, ◌+◌, ◌≤◌, ◌<◌}
+use Prim.Native.Nat.{ℕ, ◌+◌, ◌≤◌, ◌<◌, zero-le}
 use native.Mathlib.Omega.{arith}
 use lib.Dec.{ltb, eqb}
-use lib.ListN.{get_or}
+use lib.ListN.{length, get_or, take}
 use borrow.Author.Tests.{ltb-true, eqb-true, lt-ltb, eq-eqb}
-use Rattle.rules.proofs.Tests.{ff≢tt, untrue, and-true-left, and-true-right}
+use Rattle.std.specs.List.Sorted.{IsPartitionedBy, IsPartitionPoint}
+use Rattle.std.proofs.lemmas.List.{get_or-take, get_or_default, length-take}
+use Rattle.rules.proofs.Tests.{ff≢tt, and-true-left, and-true-right}
 use Rattle.words.proofs.Cases.{below_or}
 use Rattle.levels.specs.Depth.{better}
 use Rattle.levels.specs.Work.{Falling, Place, Through}
 use Rattle.levels.proofs.Prices.{better-over, better-self, better-back, better-other}
 
-pub record Between (falling : Bool) (prices : List ℕ) (n p low high : ℕ) : Type 0 where
-  pub order : low ≤ high
-  pub within : high ≤ n
-  pub ahead : (k : ℕ) → k < low → better falling (get_or prices k 0) p ≡ true
-  pub behind : (k : ℕ) → high ≤ k → k < n → better falling (get_or prices k 0) p ≡ false
+-- the prices that are better than one sought stand before the others
+module _ (falling : Bool) (prices : List ℕ) (n p : ℕ) (h : n ≤ length prices) where
+  long : length (take n prices) ≡ n
+  long = omega (arith, length-take n prices)
 
-module _ (falling : Bool) (prices : List ℕ) (n p : ℕ) where
-  pub between-all : Between falling prices n p 0 n
-  between-all = record { order = omega arith; within = omega arith; ahead = λ k h. absurd (omega arith); behind = λ k l h. absurd (omega arith) }
+  front : (k d : ℕ) → k < n → get_or (take n prices) k d ≡ get_or prices k 0
+  front k d l = get_or-take n prices k d l ∙ get_or_default prices k d 0 (omega arith)
 
-  module _ (f : Falling falling prices n) (low high : ℕ) (b : Between falling prices n p low high) (m : ℕ) (l : low ≤ m) (h : m < high) where
-    pub between-up : better falling (get_or prices m 0) p ≡ true → Between falling prices n p (m + 1) high
-    between-up e =
-        record {
-          order = omega arith;
-          within = b.within;
-          ahead = λ k q.
-              ⊎_elim
-              (λ z. better-over falling _ _ _ (f k m z (omega (arith, b.within))) e)
-              (λ z. let r : k ≡ m = omega arith in rw r e)
-              (below_or k m);
-          behind = b.behind;
-        }
+  pub parted : Falling falling prices n → IsPartitionedBy (λ q. better falling q p) (take n prices)
+  parted f i j d l m e =
+      let k : j < n = omega (arith, long) in
+      ⊎_elim
+      (λ b. rw (front i d (omega arith)) (better-over falling _ _ _ (f i j b k) (rw (front j d k) at e)))
+      (λ b. let q : i ≡ j = omega arith in rw q e)
+      (below_or i j)
 
-    pub between-down : better falling (get_or prices m 0) p ≡ false → Between falling prices n p low m
-    between-down e =
-        record {
-          order = l;
-          within = omega (arith, b.within);
-          ahead = b.ahead;
-          behind = λ k q r.
-              ⊎_elim
-              (λ z. untrue _ (λ t. ff≢tt e (better-over falling _ _ _ (f m k z r) t)))
-              (λ z. let s : k ≡ m = omega arith in rw s e)
-              (below_or m k);
-        }
-
-  pub between-met : (low high : ℕ) → Between falling prices n p low high → high ≤ low → Place falling prices n p low
-  between-met low high b h =
-      record { within = omega (arith, b.order, b.within); ahead = b.ahead; behind = λ k l. b.behind k (omega arith) }
+  pub point-place : (at : ℕ) → at ≤ length (take n prices)
+      → IsPartitionPoint (λ q. better falling q p ≡ true) (λ q. better falling q p ≡ false) (take n prices) at → Place falling prices n p at
+  point-place at w s =
+      record {
+        within = omega (arith, long);
+        ahead = λ k l. rw (front k 0 (omega (arith, long))) at (s.0 k 0 zero-le l);
+        behind = λ k l m. rw (front k 0 m) at (s.1 k 0 l (omega (arith, long)));
+      }
 
 -- r says whether the price itself stands at its place
 module _ (falling : Bool) (prices : List ℕ) (n p : ℕ) (f : Falling falling prices n) (at : ℕ) (s : Place falling prices n p at) (r : Bool)

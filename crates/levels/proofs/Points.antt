@@ -1,8 +1,8 @@
 -- Worked points of a side and of a depth, each by computation.
+use Rattle.std.specs.Prelude.{None, Some}
 use mathlib.Core.Path.{◌≡◌, refl}
 use mathlib.Core.Bool.{true, false}
 use mathlib.Core.List.{List, [], ◌∷◌}
-use mathlib.Core.Option.{none, some}
 use Prim.Native.Nat.{ℕ}
 use lib.IntN.{pos}
 use lib.Ieee.{Float, nan, inf, fin, add, le}
@@ -42,7 +42,7 @@ pub set_first : set_side true 500000 one [] ≡ value (at 500000 one ∷ [])
 unfolding set_side set_level le
 set_first = refl
 
-pub read : size_at 500000 (at 500000 one ∷ []) ≡ some one
+pub read : size_at 500000 (at 500000 one ∷ []) ≡ Some one
 read = refl
 
 pub set-better-bid : set_side true 600000 two (at 500000 one ∷ []) ≡ value (at 600000 two ∷ at 500000 one ∷ [])
@@ -61,7 +61,7 @@ pub set-worse-ask : set_side false 600000 two (at 500000 one ∷ []) ≡ value (
 unfolding set_side set_level le
 set-worse-ask = refl
 
-pub best-first : (best_of bids ≡ some (at 600000 one)) × (best_of asks ≡ some (at 400000 one)) × (best_of [] ≡ none)
+pub best-first : (best_of bids ≡ Some (at 600000 one)) × (best_of asks ≡ Some (at 400000 one)) × (best_of [] ≡ None)
 best-first = (refl, refl, refl)
 
 pub replaced : set_side true 500000 one bids ≡ value (at 600000 one ∷ at 500000 one ∷ at 400000 one ∷ [])
@@ -109,15 +109,15 @@ price-ends = (refl, refl)
 
 -- ---- trimming
 
-pub trim-bids : trim_side true (some 500000) bids ≡ at 500000 two ∷ at 400000 one ∷ []
+pub trim-bids : trim_side true (Some 500000) bids ≡ at 500000 two ∷ at 400000 one ∷ []
 unfolding trim_side
 trim-bids = refl
 
-pub trim-asks : trim_side false (some 500000) asks ≡ at 500000 two ∷ at 600000 one ∷ []
+pub trim-asks : trim_side false (Some 500000) asks ≡ at 500000 two ∷ at 600000 one ∷ []
 unfolding trim_side
 trim-asks = refl
 
-pub trim-all : (trim_side true none bids ≡ []) × (trim_side false none asks ≡ [])
+pub trim-all : (trim_side true None bids ≡ []) × (trim_side false None asks ≡ [])
 unfolding trim_side
 trim-all = (refl, refl)
 

@@ -2,7 +2,6 @@
 use mathlib.Core.Path.{◌≡◌, refl, ap, sym, ◌∙◌}
 use mathlib.Core.Bool.{Bool, true, false, not, ◌&&◌, cond, not-not}
 use mathlib.Core.List.{List, [], ◌∷◌, ◌++◌, reverse, reverse-append, reverse-reverse, append_assoc}
-use mathlib.Core.Option.{none, some}
 use Prim.Native.Nat.{ℕ, suc, ◌+◌, ◌-◌, ◌≤◌}
 use lib.Dec.{leb, eqb}
 use lib.ListN.{length, length-reverse, drop, get_or}
@@ -13,7 +12,8 @@ use Rattle.rules.specs.Answers.{Queried, refusal, value}
 use Rattle.rules.proofs.Tests.{by_cond}
 use Rattle.words.proofs.Tab.{tab-suc, tab-from, map-tab}
 use Rattle.levels.specs.declared.Level.{Level}
-use Rattle.levels.specs.declared.Set.{Set}
+use Rattle.levels.specs.declared.refusal.Refusal.{Refusal}
+use Rattle.std.specs.Prelude.{None, Some, Result, Ok, Err}
 use Rattle.levels.specs.Depth.{most, better, price_allowed, size_allowed, is_zero, level_at, new_level, set_level, set_side, side_sound, trim_side}
 use Rattle.levels.specs.Depth.{sizes_of, total, plus_zero, bid_depth_from, ask_depth_to, best_of}
 use Rattle.levels.specs.Work.{level_in, levels_of, side_in, sizes_in, Falling, Place, Through, as_laid, as_side}
@@ -96,19 +96,19 @@ module _ (bid : Bool) (p : ℕ) (s : Float) (ls : List Level) where
       go false false true l = refl
       go false false false l = refl
 
-side-laid : (r : Set) (ps : List ℕ) (ss : List Float) → as_side r ps ss ≡ reversed (as_laid r ps ss)
-side-laid (Set.Done n) ps ss = refl
-side-laid (Set.Refused c) ps ss = refl
+side-laid : (r : Result ℕ Refusal) (ps : List ℕ) (ss : List Float) → as_side r ps ss ≡ reversed (as_laid r ps ss)
+side-laid (Ok n) ps ss = refl
+side-laid (Err e) ps ss = refl
 
 -- what is answered of a side is what is answered of its arrays
-pub side_set : (r : Set) (ps : List ℕ) (ss : List Float) (bid : Bool) (p : ℕ) (s : Float) (ls : List Level)
+pub side_set : (r : Result ℕ Refusal) (ps : List ℕ) (ss : List Float) (bid : Bool) (p : ℕ) (s : Float) (ls : List Level)
     → as_laid r ps ss ≡ set_side (not bid) p s ls → as_side r ps ss ≡ set_side bid p s (reverse ls)
 side_set r ps ss bid p s ls e = side-laid r ps ss ∙ ap reversed e ∙ sym (set-reverse bid p s ls)
 
 -- ---- trimming, the sums and the best level
 
 module _ (ps : List ℕ) (ss : List Float) where
-  pub trim-reverse : (bid : Bool) (count p n : ℕ) → Through (not bid) ps count p n → trim_side bid (some p) (side_in ps ss count) ≡ side_in ps ss n
+  pub trim-reverse : (bid : Bool) (count p n : ℕ) → Through (not bid) ps count p n → trim_side bid (Some p) (side_in ps ss count) ≡ side_in ps ss n
   unfolding trim_side
   trim-reverse bid count p n w =
       keep-reverse (λ l. not (better bid l.price p)) (levels_of ps ss count)
@@ -147,8 +147,8 @@ module _ (ps : List ℕ) (ss : List Float) where
         sizes-from,
       )
 
-  pub best-last : (n : ℕ) → best_of (side_in ps ss (suc n)) ≡ some (level_in ps ss n)
+  pub best-last : (n : ℕ) → best_of (side_in ps ss (suc n)) ≡ Some (level_in ps ss n)
   best-last n = ap best_of (ap reverse (tab-suc n (level_in ps ss)) ∙ reverse-append (levels_of ps ss n) (level_in ps ss n ∷ []))
 
-  pub best-nothing : best_of (side_in ps ss 0) ≡ none
+  pub best-nothing : best_of (side_in ps ss 0) ≡ None
   best-nothing = refl

@@ -1,61 +1,19 @@
--- Places made in a list and taken away, one step at a time; and the levels of a side whose two lists are changed so.
-use mathlib.Core.Path.{◌≡◌, refl, ap, ◌∙◌}
-use mathlib.Core.Logic.{⊎_elim}
+-- A place that was made in a list is filled; and the levels of a side whose two lists are changed so.
+use mathlib.Core.Path.{◌≡◌, ap, ◌∙◌}
 use mathlib.Core.List.{List, ◌∷◌, ◌++◌}
 use Prim.Native.Nat.{ℕ, zero, suc, ◌+◌, ◌-◌, ◌≤◌, ◌<◌, zero-le, suc-le-suc}
 use native.Mathlib.Nat.{le_of_suc-le-suc, not-suc-le-zero}
 use native.Mathlib.Numerals.{add-one}
 use native.Mathlib.Omega.{arith}
 use lib.Ieee.{Float, nan}
-use lib.ListN.{length, get_or, set, take, drop}
+use lib.ListN.{length, set, take, drop}
 use lib.Seq.{get_or-set_same, get_or-set_other}
 use Rattle.words.specs.Words.{tab}
-use Rattle.words.proofs.Cases.{below_or}
 use Rattle.words.proofs.Tab.{tab-ext}
 use Rattle.levels.specs.declared.Level.{Level}
 use Rattle.levels.specs.Work.{level_in, levels_of, Opened, Closed}
 
 module _ {A : Type 0} (d : A) where
-  pub opened-none : (n : ℕ) (v : List A) → Opened d n n v v
-  opened-none n v = record { before = λ j h. refl; after = λ j l h. absurd (omega arith) }
-
-  -- what stands before a place moves into it
-  pub opened-more : (i n : ℕ) (v w : List A) → Opened d i n v w → 0 < i → i < length w → Opened d (i - 1) n v (set w i (get_or w (i - 1) d))
-  opened-more i n v w o p h =
-      record {
-        before = λ j l. get_or-set_other w i j _ d (omega arith) ∙ o.before j (omega arith);
-        after = λ j l m.
-            ⊎_elim
-            (λ b.
-            let q : j + 1 ≡ i = omega arith in
-            let r : i - 1 ≡ j = omega arith in rw (q, get_or-set_same w i (get_or w (i - 1) d) d h, r) (o.before j b))
-            (λ b. get_or-set_other w i (j + 1) _ d (omega arith) ∙ o.after j b m)
-            (below_or j i);
-      }
-
-  -- the places from `at` to i have what stood one place on, and those from i on are as they were
-  pub record Closing (at i : ℕ) (v w : List A) : Type 0 where
-    pub front : Closed d at (i + 1) v w
-    pub rest : (j : ℕ) → i ≤ j → get_or w j d ≡ get_or v j d
-
-  pub closing-none : (at : ℕ) (v : List A) → Closing at at v v
-  closing-none at v = record { front = record { before = λ j h. refl; after = λ j l h. absurd (omega arith) }; rest = λ j h. refl }
-
-  pub closing-more : (at i : ℕ) (v w : List A) → Closing at i v w → at ≤ i → i < length w → Closing at (i + 1) v (set w i (get_or w (i + 1) d))
-  closing-more at i v w o p h =
-      record {
-        front =
-            record {
-              before = λ j l. get_or-set_other w i j _ d (omega arith) ∙ o.front.before j l;
-              after = λ j l m.
-                  ⊎_elim
-                  (λ b. get_or-set_other w i j _ d (omega arith) ∙ o.front.after j l (omega arith))
-                  (λ b. let q : j ≡ i = omega arith in rw (q, get_or-set_same w i (get_or w (i + 1) d) d h) (o.rest (i + 1) (omega arith)))
-                  (below_or j i);
-            };
-        rest = λ j l. get_or-set_other w i j _ d (omega arith) ∙ o.rest j (omega arith);
-      }
-
   -- the place that was made is filled
   opened-put : (at n : ℕ) (v w : List A) (x : A) → Opened d at n v w → Opened d at n v (set w at x)
   opened-put at n v w x o =

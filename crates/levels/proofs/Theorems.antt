@@ -1,9 +1,9 @@
 -- The theorems of specs/Theorems.antt: what a call keeps, what is read back after it, and what it leaves as it was.
+use Rattle.std.specs.Prelude.{None, Option, Some}
 use mathlib.Core.Path.{◌≡◌, refl, sym, ◌∙◌, subst}
 use mathlib.Core.Logic.{◌⊎◌, inl, inr}
 use mathlib.Core.Bool.{Bool, true, false, not, ◌&&◌, cond}
 use mathlib.Core.List.{List, [], ◌∷◌, ◌++◌}
-use mathlib.Core.Option.{Option, none, some}
 use Prim.Native.Nat.{ℕ, ◌+◌, ◌≤◌}
 use native.Mathlib.Omega.{arith}
 use lib.Dec.{leb, eqb}
@@ -26,33 +26,33 @@ use Rattle.levels.proofs.Order.{passes, rising-append, PartsFit, parts-fit}
 
 -- ---- the size at a price, after each part of a call
 
-or_else_none : (o : Option Float) → maybe none some o ≡ o
-or_else_none none = refl
-or_else_none (some s) = refl
+or_else_none : (o : Option Float) → maybe None Some o ≡ o
+or_else_none None = refl
+or_else_none (Some s) = refl
 
 module _ (q : ℕ) where
-  at-append : (l r : List Level) → size_at q (l ++ r) ≡ maybe (size_at q r) some (size_at q l)
+  at-append : (l r : List Level) → size_at q (l ++ r) ≡ maybe (size_at q r) Some (size_at q l)
   at-append [] r = refl
   at-append (x ∷ l) r = go (either (eqb x.price q)) (at-append l r)
     where
-      go : (eqb x.price q ≡ true) ⊎ (eqb x.price q ≡ false) → size_at q (l ++ r) ≡ maybe (size_at q r) some (size_at q l)
-          → size_at q ((x ∷ l) ++ r) ≡ maybe (size_at q r) some (size_at q (x ∷ l))
+      go : (eqb x.price q ≡ true) ⊎ (eqb x.price q ≡ false) → size_at q (l ++ r) ≡ maybe (size_at q r) Some (size_at q l)
+          → size_at q ((x ∷ l) ++ r) ≡ maybe (size_at q r) Some (size_at q (x ∷ l))
       go (inl e) h = rw e
       go (inr e) h = rw e h
 
-  at-kept : (u : ℕ → Bool) (ls : List Level) → size_at q (keep (λ l. u l.price) ls) ≡ cond (u q) (size_at q ls) none
-  at-kept u [] = by_cond (λ (o : Option Float). none ≡ o) (u q) (λ e. refl) (λ e. refl)
+  at-kept : (u : ℕ → Bool) (ls : List Level) → size_at q (keep (λ l. u l.price) ls) ≡ cond (u q) (size_at q ls) None
+  at-kept u [] = by_cond (λ (o : Option Float). None ≡ o) (u q) (λ e. refl) (λ e. refl)
   at-kept u (l ∷ ls) = go (either (eqb l.price q)) (u l.price) refl (at-kept u ls)
     where
       go : (eqb l.price q ≡ true) ⊎ (eqb l.price q ≡ false) → (b : Bool) → u l.price ≡ b
-          → size_at q (keep (λ l. u l.price) ls) ≡ cond (u q) (size_at q ls) none
-          → size_at q (keep (λ l. u l.price) (l ∷ ls)) ≡ cond (u q) (size_at q (l ∷ ls)) none
+          → size_at q (keep (λ l. u l.price) ls) ≡ cond (u q) (size_at q ls) None
+          → size_at q (keep (λ l. u l.price) (l ∷ ls)) ≡ cond (u q) (size_at q (l ∷ ls)) None
       go (inl e) true f h = let k : u q ≡ true = rw (eqb-true l.price q e) at f in rw (f, e, k)
       go (inl e) false f h = let k : u q ≡ false = rw (eqb-true l.price q e) at f in rw (f, k) (rw k at h)
       go (inr e) true f h = rw (f, e) h
       go (inr e) false f h = rw (f, e) h
 
-  at_set : (bid : Bool) (p : ℕ) (s : Float) (ls : List Level) → size_at q (set_level bid p s ls) ≡ cond (eqb p q) (cond (is_zero s) none (some s)) (size_at q ls)
+  at_set : (bid : Bool) (p : ℕ) (s : Float) (ls : List Level) → size_at q (set_level bid p s ls) ≡ cond (eqb p q) (cond (is_zero s) None (Some s)) (size_at q ls)
   unfolding set_level
   at_set bid p s ls =
       at-append (keep (λ l. better bid l.price p) ls) (level_at p s ++ keep (λ l. better bid p l.price) ls)
@@ -60,8 +60,8 @@ module _ (q : ℕ) where
       (go (stand bid p q) (is_zero s) refl)
     where
       go : Stand bid p q → (z : Bool) → is_zero s ≡ z
-          → maybe (maybe (cond (better bid p q) (size_at q ls) none) some (size_at q (level_at p s))) some (cond (better bid q p) (size_at q ls) none)
-          ≡ cond (eqb p q) (cond (is_zero s) none (some s)) (size_at q ls)
+          → maybe (maybe (cond (better bid p q) (size_at q ls) None) Some (size_at q (level_at p s))) Some (cond (better bid q p) (size_at q ls) None)
+          ≡ cond (eqb p q) (cond (is_zero s) None (Some s)) (size_at q ls)
       go (ahead a b e) true z = rw (a, b, z, e)
       go (ahead a b e) false z = rw (a, b, z, e)
       go (level a b e) true z = rw (a, b, z, e)
@@ -164,8 +164,8 @@ no_zero bid ls e = each-imp Allowed (λ l. is_zero l.size ≡ false) nonzero ls 
 
 pub trim-sound : TrimSound
 unfolding side_sound in_order trim_side
-trim-sound bid none ls e = refl
-trim-sound bid (some p) ls e =
+trim-sound bid None ls e = refl
+trim-sound bid (Some p) ls e =
     let was = sound-says bid ls e in
     let t : Level → Bool = λ l. not (better bid l.price p) in
     sound-is bid (keep t ls)

@@ -1,27 +1,28 @@
--- Sums of sizes while some are still to be added: one more is added, in either order.
-use mathlib.Core.Path.{◌≡◌}
-use mathlib.Core.List.{List, ◌∷◌, [], reverse, reverse-append}
-use Prim.Native.Nat.{ℕ, ◌+◌, ◌-◌, ◌≤◌, ◌<◌}
+-- Sizes added up by a fold over references; the first elements of a list, and the sizes from a place on up to another, as parts of it.
+use mathlib.Core.Path.{◌≡◌, refl, ap, sym, ◌∙◌}
+use mathlib.Core.List.{List, ◌∷◌, [], map}
+use Prim.Native.Nat.{ℕ, zero, suc, ◌+◌, ◌-◌, ◌≤◌}
+use native.Mathlib.Nat.{not-suc-le-zero, le_of_suc-le-suc}
 use native.Mathlib.Omega.{arith}
 use lib.Ieee.{Float, nan, binary64, add}
-use lib.ListN.{get_or}
-use Rattle.words.proofs.Tab.{tab-from, tab-snoc, drop-tab-cons}
+use lib.ListN.{length, get_or, take, drop, length-drop}
+use Rattle.std.specs.List.{fold}
+use Rattle.std.proofs.lemmas.List.{get_or-drop}
+use Rattle.words.specs.Words.{tab}
+use Rattle.words.proofs.Tab.{tab-ext}
 use Rattle.levels.specs.Depth.{total}
 use Rattle.levels.specs.Work.{sizes_in}
 
-module _ (sizes : List Float) (from to : ℕ) where
-  abbrev size : ℕ → Float
-  size i = get_or sizes i nan
+pub folded : {A : Type 0} (v : A → Float) (x : Float) (ys : List A) → fold (λ a y. add binary64 a (v y)) x ys ≡ total x (map v ys)
+folded v x [] = refl
+folded v x (y ∷ ys) = folded v (add binary64 x (v y)) ys
 
-  pub none_left : to ≤ from → sizes_in sizes from to ≡ []
-  none_left h = let q : to - from ≡ 0 = omega arith in rw q
+pub tab-front : {A : Type 0} (d : A) (n : ℕ) (xs : List A) → n ≤ length xs → tab n (λ i. get_or xs i d) ≡ take n xs
+tab-front d zero xs h = refl
+tab-front d (suc n) [] h = absurd (not-suc-le-zero h)
+tab-front d (suc n) (x ∷ xs) h = ap (λ (l : List _). x ∷ l) (tab-front d n xs (le_of_suc-le-suc h))
 
-  pub up_more : from < to → (x : Float) → total x (sizes_in sizes from to) ≡ total (add binary64 x (get_or sizes from nan)) (sizes_in sizes (from + 1) to)
-  up_more h x = rw (← tab-from from to size, ← tab-from (from + 1) to size, drop-tab-cons to from size h)
-
-  pub down-more : from < to → (x : Float)
-      → total x (reverse (sizes_in sizes from to)) ≡ total (add binary64 x (get_or sizes (to - 1) nan)) (reverse (sizes_in sizes from (to - 1)))
-  down-more h x =
-      let q : to - from ≡ to - 1 - from + 1 = omega arith in
-      let r : from + (to - 1 - from) ≡ to - 1 = omega arith in
-      rw (q, tab-snoc (to - 1 - from) (λ i. size (from + i)), reverse-append (sizes_in sizes from (to - 1)) (size (from + (to - 1 - from)) ∷ []), r)
+pub sizes-cut : (sizes : List Float) (from to : ℕ) → from ≤ to → to ≤ length sizes → sizes_in sizes from to ≡ take (to - from) (drop from sizes)
+sizes-cut sizes from to h k =
+    tab-ext (to - from) (λ i. get_or sizes (from + i) nan) (λ i. get_or (drop from sizes) i nan) (λ i l. sym (get_or-drop from sizes i nan))
+    ∙ tab-front nan (to - from) (drop from sizes) (omega (arith, length-drop from sizes))

@@ -1,7 +1,6 @@
 -- Request 2 of document 02, price levels of a token: `Depth` of market_data.rs. The quoted words are the request's.
 -- A size is a float of `lib.Ieee`. Two sizes that are no NaN are equal here exactly when they are equal bit for bit.
-use Rattle.std.specs.Prelude.{Bool, true, false, not, ◌&&◌, cond, List, [], ◌∷◌, ◌++◌, map, reverse, ℕ, leb, ltb, eqb, pos, length, Float}
-use Rattle.std.proofs.Math.Option.{Option, none, some}
+use Rattle.std.specs.Prelude.{None, Option, Some, Bool, true, false, not, ◌&&◌, cond, List, [], ◌∷◌, ◌++◌, map, reverse, ℕ, leb, ltb, eqb, pos, length, Float}
 use Rattle.std.specs.Float.{inf, fin, binary64}
 use Rattle.std.specs.Float.Ieee.{add, lt, le, eq}
 use Rattle.rules.specs.Lists.{keep, any}
@@ -68,8 +67,8 @@ set_side bid p s ls =
 
 -- "Trim drops every level better than the reported best, or the whole side where none is reported"
 unfoldable pub trim_side : Bool → Option ℕ → List Level → List Level
-trim_side bid none ls = []
-trim_side bid (some p) ls = keep (λ l. not (better bid l.price p)) ls
+trim_side bid None ls = []
+trim_side bid (Some p) ls = keep (λ l. not (better bid l.price p)) ls
 
 -- The sums of market_data.rs: sizes are added in rising order of price, from plus zero, and each addition is rounded once.
 abbrev pub total : Float → List Float → Float
@@ -89,8 +88,8 @@ ask_depth_to ceiling ls = total plus_zero (sizes_of (keep (λ l. leb l.price cei
 
 -- the best level is the first
 abbrev pub best_of : List Level → Option Level
-best_of [] = none
-best_of (l ∷ ls) = some l
+best_of [] = None
+best_of (l ∷ ls) = Some l
 
 -- ---- a depth: both sides
 

@@ -1,6 +1,5 @@
 -- What holds of the definitions, for every side, depth, price and size. Each is proved in proofs/Theorems.antt.
-use Rattle.std.specs.Prelude.{◌≡◌, Bool, true, false, not, cond, List, [], ℕ, eqb, Float}
-use Rattle.std.proofs.Math.Option.{Option, none, some}
+use Rattle.std.specs.Prelude.{None, Option, Some, ◌≡◌, Bool, true, false, not, cond, List, [], ℕ, eqb, Float}
 use Rattle.rules.specs.Lists.{first, maybe, Each}
 use Rattle.rules.specs.Answers.{value}
 use Rattle.levels.specs.declared.Level.{Level}
@@ -8,7 +7,7 @@ use Rattle.levels.specs.Depth.{better, is_zero, side_sound, set_side, trim_side,
 
 -- the size that stands at a price
 abbrev pub size_at : ℕ → List Level → Option Float
-size_at p ls = maybe none (λ l. some l.size) (first (λ l. eqb l.price p) ls)
+size_at p ls = maybe None (λ l. Some l.size) (first (λ l. eqb l.price p) ls)
 
 -- a level that is set leaves a sound side; by refusal 14 a side of 512 stays at 512
 abbrev pub SetSound : Type 0
@@ -16,7 +15,7 @@ SetSound = (bid : Bool) (p : ℕ) (s : Float) (ls ls' : List Level) → side_sou
 
 -- what is set is read back, the same float, and after size zero nothing is there: on every side, sound or not
 abbrev pub SetReadsBack : Type 0
-SetReadsBack = (bid : Bool) (p : ℕ) (s : Float) (ls ls' : List Level) → set_side bid p s ls ≡ value ls' → size_at p ls' ≡ cond (is_zero s) none (some s)
+SetReadsBack = (bid : Bool) (p : ℕ) (s : Float) (ls ls' : List Level) → set_side bid p s ls ≡ value ls' → size_at p ls' ≡ cond (is_zero s) None (Some s)
 
 -- and at every other price the size that was there
 abbrev pub SetLeavesOthers : Type 0
@@ -33,14 +32,14 @@ TrimSound = (bid : Bool) (best : Option ℕ) (ls : List Level) → side_sound bi
 
 -- no level better than the reported best is left, and none at all where none is reported
 abbrev pub TrimBest : Type 0
-TrimBest = (bid : Bool) (p : ℕ) (ls : List Level) → Each (λ l. better bid l.price p ≡ false) (trim_side bid (some p) ls)
+TrimBest = (bid : Bool) (p : ℕ) (ls : List Level) → Each (λ l. better bid l.price p ≡ false) (trim_side bid (Some p) ls)
 
 abbrev pub TrimNone : Type 0
-TrimNone = (bid : Bool) (ls : List Level) → trim_side bid none ls ≡ []
+TrimNone = (bid : Bool) (ls : List Level) → trim_side bid None ls ≡ []
 
 -- a price that is no better than the best keeps its size
 abbrev pub TrimLeavesOthers : Type 0
-TrimLeavesOthers = (bid : Bool) (p q : ℕ) (ls : List Level) → better bid q p ≡ false → size_at q (trim_side bid (some p) ls) ≡ size_at q ls
+TrimLeavesOthers = (bid : Bool) (p q : ℕ) (ls : List Level) → better bid q p ≡ false → size_at q (trim_side bid (Some p) ls) ≡ size_at q ls
 
 -- of a depth: a call that is not refused leaves a sound one, and a set the other side as it was
 abbrev pub DepthSetSound : Type 0

@@ -1,11 +1,10 @@
 -- A side in two lent lists, its prices and its sizes, and what the work on them leaves. Places from the count on mean nothing.
-use Rattle.std.specs.Prelude.{◌≡◌, Bool, true, false, List, reverse, ℕ, ◌+◌, ◌-◌, ◌≤◌, ◌<◌, get_or, Float}
-use Rattle.std.proofs.Math.Option.{Option, none, some}
+use Rattle.std.specs.Prelude.{Option, ◌≡◌, Bool, true, false, List, reverse, ℕ, ◌+◌, ◌-◌, ◌≤◌, ◌<◌, get_or, Float}
+use Rattle.std.specs.Prelude.{Result, Ok, Err}
 use Rattle.std.specs.Float.{nan}
 use Rattle.words.specs.Words.{tab}
 use Rattle.levels.specs.declared.Level.{Level}
-use Rattle.levels.specs.declared.Reported.{Reported}
-use Rattle.levels.specs.declared.Set.{Set}
+use Rattle.levels.specs.declared.refusal.Refusal.{Refusal}
 use Rattle.rules.specs.Answers.{Queried, refusal, value}
 use Rattle.levels.specs.Depth.{better, trim_side}
 
@@ -20,9 +19,12 @@ levels_of prices sizes count = tab count (level_in prices sizes)
 abbrev pub side_in : List ℕ → List Float → ℕ → List Level
 side_in prices sizes count = reverse (levels_of prices sizes count)
 
-abbrev pub reported : Reported → Option ℕ
-reported (Reported.Price p) = some p
-reported Reported.Nothing = none
+-- the number that request 2 gives a refusal
+abbrev pub number_of : Refusal → ℕ
+number_of Refusal.Unsound = 1
+number_of Refusal.Price = 12
+number_of Refusal.Size = 13
+number_of Refusal.Full = 14
 
 -- each of the first n prices is above all behind it, or below
 abbrev pub Falling : (falling : Bool) → List ℕ → ℕ → Type 0
@@ -55,20 +57,20 @@ pub record Closed {A : Type 0} (d : A) (at n : ℕ) (v w : List A) : Type 0 wher
   pub after : (j : ℕ) → at ≤ j → j + 1 < n → get_or w j d ≡ get_or v (j + 1) d
 
 -- what an answer and the lists it leaves say, as they lie
-abbrev pub as_laid : Set → List ℕ → List Float → Queried (List Level)
-as_laid (Set.Done n) prices sizes = value (levels_of prices sizes n)
-as_laid (Set.Refused c) prices sizes = refusal c
+abbrev pub as_laid : Result ℕ Refusal → List ℕ → List Float → Queried (List Level)
+as_laid (Ok n) prices sizes = value (levels_of prices sizes n)
+as_laid (Err e) prices sizes = refusal (number_of e)
 
 -- and of a side
-abbrev pub as_side : Set → List ℕ → List Float → Queried (List Level)
-as_side (Set.Done n) prices sizes = value (side_in prices sizes n)
-as_side (Set.Refused c) prices sizes = refusal c
+abbrev pub as_side : Result ℕ Refusal → List ℕ → List Float → Queried (List Level)
+as_side (Ok n) prices sizes = value (side_in prices sizes n)
+as_side (Err e) prices sizes = refusal (number_of e)
 
 -- a count that trims a side, whatever its sizes are
 abbrev pub Trims : Bool → Option ℕ → List ℕ → (count left : ℕ) → Type 0
 Trims bid best prices count left = (sizes : List Float) → side_in prices sizes left ≡ trim_side bid best (side_in prices sizes count)
 
 -- a refusal changes no place
-abbrev pub Stays : Set → List ℕ → List Float → List ℕ → List Float → Type 0
-Stays (Set.Done n) prices sizes prices' sizes' = Unit {0}
-Stays (Set.Refused c) prices sizes prices' sizes' = (prices' ≡ prices) × (sizes' ≡ sizes)
+abbrev pub Stays : Result ℕ Refusal → List ℕ → List Float → List ℕ → List Float → Type 0
+Stays (Ok n) prices sizes prices' sizes' = Unit {0}
+Stays (Err e) prices sizes prices' sizes' = (prices' ≡ prices) × (sizes' ≡ sizes)

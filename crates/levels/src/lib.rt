@@ -3,29 +3,18 @@
 #![tactic(auto)]
 
 pub mod ordered;
+pub mod refusal;
 pub mod room;
 pub mod search;
 pub mod side;
 pub mod sums;
 pub mod tests;
 
+pub use refusal::Refusal;
+
 // A price in millionths, and the size that rests there.
 #[derive(Clone, Copy)]
 pub struct Level {
     pub price: u32,
     pub size: f64,
-}
-
-// The best price that the venue reports for a side.
-#[derive(Clone, Copy)]
-pub enum Reported {
-    Price(u32),
-    Nothing,
-}
-
-// What setting a level is answered: the side's new count.
-#[derive(Clone, Copy)]
-pub enum Set {
-    Done(usize),
-    Refused(u64),
 }

@@ -1,4 +1,4 @@
-// Where a price stands in a side, by halving.
+// Where a price stands in a side.
 ghost use Rattle.std.specs.Prelude.{◌≡◌, ◌&&◌, ◌≤◌, ltb, eqb, get_or};
 ghost use Rattle.levels.specs.Work.{Falling, Place, Through};
 
@@ -8,17 +8,7 @@ pub fn place(prices: &[u32; 512], count: usize, falling: bool, price: u32) -> us
     requires { (count ≤ 512) × Falling falling prices.now count }
     ensures { Place falling prices.now count price result }
 {
-    let mut low: usize = 0;
-    let mut high = count;
-    while low < high {
-        let middle = low + (high - low) / 2;
-        if better(falling, prices[middle], price) {
-            low = middle + 1;
-        } else {
-            high = middle;
-        }
-    }
-    low
+    prices[..count].partition_point(|p| better(falling, *p, price))
 }
 
 // Whether the price itself stands at its place.
@@ -26,11 +16,7 @@ pub fn standing(prices: &[u32; 512], count: usize, at: usize, price: u32) -> boo
     requires { count ≤ 512 }
     ensures { result ≡ (ltb at count && eqb (get_or prices.now at 0) price) }
 {
-    if at < count {
-        prices[at] == price
-    } else {
-        false
-    }
+    at < count && prices[at] == price
 }
 
 // How many levels are at a price or better.

@@ -1,12 +1,12 @@
 // A side: the level farthest out lies first, the best last, so that a change near the best moves little. Bids then rise, and asks fall.
 ghost use Rattle.std.specs.Prelude.{◌≡◌, true, false, not, ◌≤◌};
 ghost use Rattle.levels.specs.Depth.{side_sound, set_side, bid_depth_from, ask_depth_to};
-ghost use Rattle.levels.specs.Work.{side_in, Falling, reported, as_side, Stays, Trims};
+ghost use Rattle.levels.specs.Work.{side_in, Falling, as_side, Stays, Trims};
 
 use crate::search::{place, through};
 use crate::sums::{sum_down, sum_up};
 use crate::tests::ordered_sound;
-use crate::{Reported, Set, ordered};
+use crate::{Refusal, ordered};
 
 pub fn sound(prices: &[u32; 512], sizes: &[f64; 512], count: usize, bid: bool) -> bool
     ensures { result ≡ side_sound bid (side_in prices.now sizes.now count) }
@@ -14,6 +14,8 @@ pub fn sound(prices: &[u32; 512], sizes: &[f64; 512], count: usize, bid: bool) -
     ordered_sound(prices, sizes, count, !bid)
 }
 
+// Inlined into each export: a call would hand the `Result` back through memory.
+#[inline(always)]
 pub fn set(
     prices: &mut [u32; 512],
     sizes: &mut [f64; 512],
@@ -21,7 +23,7 @@ pub fn set(
     bid: bool,
     price: u32,
     size: f64,
-) -> Set
+) -> Result<usize, Refusal>
     requires { side_sound bid (side_in prices.old sizes.old count) ≡ true }
     ensures { (as_side result prices.new sizes.new
         ≡ set_side bid price size (side_in prices.old sizes.old count))
@@ -31,13 +33,13 @@ pub fn set(
 }
 
 // The new count; no place changes.
-pub fn trim(prices: &[u32; 512], count: usize, bid: bool, best: Reported) -> usize
+pub fn trim(prices: &[u32; 512], count: usize, bid: bool, best: Option<u32>) -> usize
     requires { (count ≤ 512) × Falling (not bid) prices.now count }
-    ensures { Trims bid (reported best) prices.now count result }
+    ensures { Trims bid best prices.now count result }
 {
     match best {
-        Reported::Price(price) => through(prices, count, !bid, price),
-        Reported::Nothing => 0,
+        Some(price) => through(prices, count, !bid, price),
+        None => 0,
     }
 }
 

@@ -12,14 +12,21 @@ pub fn better(bid: bool, p: u32, q: u32) -> bool
 pub fn price_allowed(price: u32) -> bool
     ensures { result ≡ price_allowed price }
 {
-    if 1 <= price { price <= 999999 } else { false }
+    (1..=999_999).contains(&price)
 }
 
 // Every comparison with a NaN is false.
 pub fn size_allowed(size: f64) -> bool
     ensures { result ≡ size_allowed size }
 {
-    if 0.0 <= size { size < 1.0 / 0.0 } else { false }
+    0.0 <= size && size < f64::INFINITY
+}
+
+// A size of zero does not stand: it removes a level.
+fn level_allowed(price: u32, size: f64) -> bool
+    ensures { result ≡ level_allowed (record { price = price; size = size }) }
+{
+    price_allowed(price) && size_allowed(size) && size != 0.0
 }
 
 // Whether the level at a place may stand there, and is better than the one behind it.
@@ -29,22 +36,8 @@ fn stands(prices: &[u32; 512], sizes: &[f64; 512], count: usize, falling: bool, 
         && better_than_next falling (level_in prices.now sizes.now i)
         (drop (i + 1) (levels_of prices.now sizes.now count))) }
 {
-    let price = prices[i];
-    let size = sizes[i];
-    if !price_allowed(price) {
-        return false;
-    }
-    if !size_allowed(size) {
-        return false;
-    }
-    if size == 0.0 {
-        return false;
-    }
-    if i + 1 < count {
-        better(falling, price, prices[i + 1])
-    } else {
-        true
-    }
+    level_allowed(prices[i], sizes[i])
+        && (i + 1 == count || better(falling, prices[i], prices[i + 1]))
 }
 
 pub fn ordered_sound(prices: &[u32; 512], sizes: &[f64; 512], count: usize, falling: bool) -> bool
@@ -53,12 +46,10 @@ pub fn ordered_sound(prices: &[u32; 512], sizes: &[f64; 512], count: usize, fall
     if 512 < count {
         return false;
     }
-    let mut i: usize = 0;
-    while i < count {
+    for i in 0..count {
         if !stands(prices, sizes, count, falling, i) {
             return false;
         }
-        i += 1;
     }
     true
 }

@@ -5,18 +5,17 @@ use Prim.Native.Nat.{ℕ, zero, suc, ◌+◌, ◌≤◌, ◌<◌}
 use native.Mathlib.Nat.{not-suc-le-zero, le_of_suc-le-suc}
 use native.Mathlib.Numerals.{add-one}
 use lib.ListN.{length, get_or, set}
-use Rattle.rules.specs.declared.Limits.{Limits}
 use Rattle.rules.specs.Lines as Rules
 use Rattle.rules.specs.Lines.{Connection, Market, nobody, conn_at, with_lines, set_line, with_line}
 use Rattle.rules.specs.Calls.{each_line}
 use Rattle.lines.specs.declared.Line.{Line}
 use Rattle.lines.specs.Line.{line_of}
 use Rattle.lines.specs.Area.{head_line}
-use Rattle.store.specs.Store.{limits_of, line_count, line_words_at, market_of, Sized}
+use Rattle.store.specs.Store.{line_count, line_words_at, market_of, Sized}
 use Rattle.store.specs.Moves.{Moved}
-use Rattle.store.specs.ConnMoves.{items_at, Lined, LineAt}
-use Rattle.store.proofs.MarketLaws.{market-limits, lines-count}
-use Rattle.store.proofs.FrameLaws.{moved-limits, moved-is}
+use Rattle.store.specs.ConnMoves.{items_at}
+use Rattle.store.proofs.MarketLaws.{lines-count}
+use Rattle.store.proofs.FrameLaws.{moved-is}
 use Rattle.store.proofs.ConnLaws.{line-told}
 
 -- one line changed, by value
@@ -67,14 +66,6 @@ module _ (f : Rules.Line → Rules.Line) (w : List ℕ) where
   each_none z = record { market = refl; sized = z; kinds = λ k. k }
 
   module _ (v : List ℕ) (i : ℕ) (a : Partly i v) where
-    count : line_count v ≡ line_count w
-    count = sym (lines-count v) ∙ ap (λ (m : Market). length m.lines) a.market ∙ first-length (on_line f) i (market_of w).lines ∙ lines-count w
-
-    pub each-here : Lined w → i < line_count w → LineAt v i
-    each-here z h =
-        let l : (limits_of v).L ≡ (limits_of w).L = ap (λ (m : Limits). m.L) (moved-limits a ∙ market-limits w) in
-        record { lined = record { sized = a.sized; count = rw (count, l) z.count }; here = rw count h }
-
     pub each_more : (x : List ℕ) → i < line_count w → Moved v x (set_line i (f (conn_at i (market_of v)).line) (market_of v)) → Partly (i + 1) x
     each_more x h b =
         record {

@@ -1,5 +1,5 @@
 -- Lists by place, and where a connection's line stands among lines that rise.
-use mathlib.Core.Path.{◌≡◌, refl, sym, ap, ◌∙◌}
+use mathlib.Core.Path.{◌≡◌, refl, ap, ◌∙◌}
 use mathlib.Core.List.{List, [], ◌∷◌}
 use mathlib.Core.Bool.{Bool, true, false, not, ◌||◌, cond}
 use Prim.Native.Nat.{ℕ, zero, suc, ◌≤◌, ◌<◌, zero-le, suc-le-suc}
@@ -7,14 +7,12 @@ use native.Mathlib.Nat.{not-suc-le-zero, le_of_suc-le-suc}
 use native.Mathlib.Omega.{arith}
 use lib.Dec.{ltb, leb, eqb}
 use lib.ListN.{length, get_or, set}
-use borrow.Author.Tests.{le-leb, lt-leb}
+use borrow.Author.Tests.{lt-leb}
 use Rattle.rules.specs.Lists.{keep, any, index, Each, Rising}
 use Rattle.rules.specs.Lines.{Connection, nobody, waiting, subscribed}
-use Rattle.rules.proofs.Tests.{leb-true, leb-false, eqb-true, eqb-false, eqb_same, eqb-other, lt-ltb, le-ltb}
+use Rattle.rules.proofs.Tests.{leb-true, leb-false, eqb-true, eqb_same, eqb-other, lt-ltb, le-ltb}
 use Rattle.rules.proofs.ListLaws.{each-imp}
 use Rattle.rules.proofs.Invariant.{Sorted}
-use Rattle.words.specs.Words.{Says}
-use Rattle.words.proofs.Cases.{says}
 use Rattle.store.proofs.ConnLaws.{of_conn}
 use Rattle.store.specs.Areas.{without, inserted}
 
@@ -59,15 +57,8 @@ keep-without c (x ∷ xs) o = go (eqb x.conn c) refl (keep-without c xs o.1)
 abbrev pub not_lower : ℕ → Connection → Bool
 not_lower c s = leb c s.conn
 
-pub not_lower_lem : (c r n : ℕ) → r ≡ n → c ≤ r → leb c n ≡ true
-not_lower_lem c r n e h = le-leb c n (omega arith)
-
 pub lower : (c r n : ℕ) → r ≡ n → r < c → leb c n ≡ false
 lower c r n e h = lt-leb c n (omega arith)
-
--- a test of the line there
-pub stands : (i n r m c : ℕ) → i < n → r ≡ m → Says (eqb r c) ((i < n) × (m ≡ c))
-stands i n r m c h e = says (eqb r c) ((i < n) × (m ≡ c)) (λ t. (h, sym e ∙ eqb-true t)) (λ t p. eqb-false t (e ∙ p.1))
 
 -- the line there is the connection's
 pub subscribed-there : (c limit t : ℕ) (ls : List Connection) → index (not_lower c) ls < length ls → (get_or ls (index (not_lower c) ls) nobody).conn ≡ c

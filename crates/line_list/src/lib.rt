@@ -3,22 +3,29 @@
 
 ghost use Rattle.std.specs.Prelude.{◌≡◌, false, not, ◌&&◌, ◌<◌, leb, eqb, length};
 ghost use Rattle.rules.specs.Lists.{keep, any, index};
-ghost use Rattle.rules.specs.Lines.{conn_at, with_lines, set_line, subscribed};
+ghost use Rattle.rules.specs.Lines as Rules;
+ghost use Rattle.rules.specs.Lines.{conn_at, with_lines, subscribed};
 ghost use Rattle.rules.specs.Calls.{pending_anew, each_line};
 ghost use Rattle.rules.specs.Tick.{out_of_line};
 ghost use Rattle.words.specs.Words.{Says};
 ghost use Rattle.store.specs.Store.{line_count, market_of, Sound};
 ghost use Rattle.store.specs.Moves.{Moved};
-ghost use Rattle.store.specs.ConnMoves.{Lined, LineAt};
+ghost use Rattle.store.specs.ConnMoves.{Lined};
+ghost use Rattle.line_list.specs.Change.{Makes};
 
-// The i-th line becomes Pending, empty, since t, unless it has failed.
-fn reset_at(s: &mut [u64], i: usize, t: u64)
-    requires { LineAt s.old i }
-    ensures { Moved s.old s.new
-        (set_line i (pending_anew t (conn_at i (market_of s.old)).line) (market_of s.old)) }
+use lines::Line;
+
+// Every line changes, by value.
+fn change_each<F: Fn(Line) -> Line>(s: &mut [u64], change: F)
+    requires lined { Lined s.old }
+    requires callable { F.IsAlwaysCallable change }
+    ensures { (g : Rules.Line → Rules.Line) → Makes (F.post change) g
+        → Moved s.old s.new (each_line g (market_of s.old)) }
 {
-    let line = store::conns::line_at(s, i);
-    store::conns::set_line(s, i, line.reset(t));
+    for i in 0..store::conns::count(s) {
+        let line = store::conns::line_at(s, i);
+        store::conns::set_line(s, i, change(line));
+    }
 }
 
 // Every line but a Failed one becomes Pending, empty, since t; held prints stay.
@@ -26,22 +33,7 @@ pub fn reset(s: &mut [u64], t: u64)
     requires { Lined s.old }
     ensures { Moved s.old s.new (each_line (pending_anew t) (market_of s.old)) }
 {
-    let n = store::conns::count(s);
-    let mut i = 0;
-    while i < n {
-        reset_at(s, i, t);
-        i += 1;
-    }
-}
-
-// The i-th line, if in line, becomes Pending, empty, since t.
-fn out_at(s: &mut [u64], i: usize, t: u64)
-    requires { LineAt s.old i }
-    ensures { Moved s.old s.new
-        (set_line i (out_of_line t (conn_at i (market_of s.old)).line) (market_of s.old)) }
-{
-    let line = store::conns::line_at(s, i);
-    store::conns::set_line(s, i, line.out_of_line(t));
+    change_each(s, |line| line.reset(t));
 }
 
 // Every line in line becomes Pending, empty, since t.
@@ -49,12 +41,7 @@ pub fn out_of_line(s: &mut [u64], t: u64)
     requires { Lined s.old }
     ensures { Moved s.old s.new (each_line (out_of_line t) (market_of s.old)) }
 {
-    let n = store::conns::count(s);
-    let mut i = 0;
-    while i < n {
-        out_at(s, i, t);
-        i += 1;
-    }
+    change_each(s, |line| line.out_of_line(t));
 }
 
 // The connection's line goes.
@@ -63,9 +50,8 @@ pub fn remove(s: &mut [u64], conn: u64)
     ensures { Moved s.old s.new
         (with_lines (keep (λ c. not (eqb c.conn conn)) (market_of s.old).lines) (market_of s.old)) }
 {
-    let n = store::conns::count(s);
     let i = store::conns::find(s, conn);
-    if i < n {
+    if i < store::conns::count(s) {
         store::areas::take_out(s, i);
     }
 }
@@ -76,14 +62,12 @@ fn place_of(s: &[u64], conn: u64) -> usize
     ensures { result ≡ index (λ c. leb conn c.conn) (market_of s.now).lines }
 {
     let n = store::conns::count(s);
-    let mut i = 0;
-    while i < n {
+    for i in 0..n {
         if conn <= store::conns::conn_at(s, i) {
             return i;
         }
-        i += 1;
     }
-    i
+    n
 }
 
 // Whether the i-th line is there and is this connection's.
@@ -91,11 +75,7 @@ fn stands_at(s: &[u64], i: usize, conn: u64) -> bool
     requires { Lined s.now }
     ensures { Says result ((i < line_count s.now) × ((conn_at i (market_of s.now)).conn ≡ conn)) }
 {
-    let n = store::conns::count(s);
-    if i < n {
-        return store::conns::conn_at(s, i) == conn;
-    }
-    false
+    i < store::conns::count(s) && store::conns::conn_at(s, i) == conn
 }
 
 // The connection's line becomes Waiting, empty, since t, with this limit; one that has no line gets one in its place by connection.

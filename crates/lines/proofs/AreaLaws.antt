@@ -1,16 +1,16 @@
 -- Laws of a line's area: the line that its words say, and what a changed header leaves.
+use Rattle.std.specs.Prelude.{Option, None, Some, is_some, unwrap_or}
 use mathlib.Core.Path.{◌≡◌, refl, sym, ◌∙◌, ap}
 use mathlib.Core.List.{List, [], ◌∷◌, ◌++◌}
 use mathlib.Core.Bool.{Bool, true, false, not}
 use Prim.Native.Nat.{ℕ, zero, suc, ◌+◌, ◌-◌, ◌*◌, ◌^◌, ◌≤◌, ◌<◌}
 use native.Mathlib.Omega.{arith}
 use lib.Dec.{eqb, eqb-suc-zero}
+use mir.Val.{bool_byte}
 use lib.ListN.{length, get_or, drop, set, length-set}
 use lib.Seq.{get_or-set_same, get_or-set_other}
 use Rattle.rules.specs.Lists.{any}
 use Rattle.rules.specs.Quantities.{Key, key, same}
-use Rattle.rules.specs.declared.Stamp.{Stamp}
-use Rattle.rules.specs.declared.Stamp.TheVariants as Stamp
 use Rattle.rules.specs.Lines as Rules
 use Rattle.rules.specs.Lines.{waiting, with_line, with_held}
 use Rattle.rules.proofs.Tests.{ff≢tt}
@@ -22,18 +22,27 @@ use Rattle.words.proofs.Lists.{any_here, any-over, any-end}
 use Rattle.rules.specs.declared.Item.{Item}
 use Rattle.lines.specs.declared.Line.{Line}
 use Rattle.lines.specs.declared.Line.TheVariants as Line
-use Rattle.lines.specs.Line.{line_of, held_of, holding}
+use Rattle.lines.proofs.Laws.{more-reads}
+use Rattle.lines.specs.Line.{Stands, line_of, held_of, holding}
 use Rattle.lines.specs.Area.{flag, stamp_in, by_kind, line_in, flag_of, stamp_flag, stamp_time, line_words, print_in, prints_in, item_words, print_words, head_line, print_count, line_limit, no_print, conn_of}
 
 -- ---- a time with its flag
 
-pub stamp-at : (f t : ℕ) → (f ≡ 0 → ⊥) → Stamp.At t ≡ stamp_in f t
+pub stamp-at : (f t : ℕ) → (f ≡ 0 → ⊥) → Some t ≡ stamp_in f t
 stamp-at zero t g = absurd (g refl)
 stamp-at (suc f) t g = refl
 
-pub stamp-back : (s : Stamp) → stamp_in (stamp_flag s) (stamp_time s) ≡ s
-stamp-back Stamp.Never = refl
-stamp-back (Stamp.At t) = refl
+pub flag-byte : (b : Bool) → bool_byte b ≡ flag_of b
+flag-byte true = refl
+flag-byte false = refl
+
+pub stamp-words : (s : Option ℕ) → (bool_byte (is_some s) ≡ stamp_flag s) × (unwrap_or s 0 ≡ stamp_time s)
+stamp-words None = (refl, refl)
+stamp-words (Some t) = (refl, refl)
+
+pub stamp-back : (s : Option ℕ) → stamp_in (stamp_flag s) (stamp_time s) ≡ s
+stamp-back None = refl
+stamp-back (Some t) = refl
 
 -- ---- reading a line
 
@@ -42,13 +51,9 @@ module _ (v : List ℕ) where
   unfolding line_in
   says-waiting e = rw e
 
-  pub says-pending-never : get_or v 0 0 ≡ 1 → get_or v 3 0 ≡ 0 → Line.Pending (get_or v 1 0) Stamp.Never (get_or v 2 0) ≡ line_in v
+  pub says-pending : get_or v 0 0 ≡ 1 → (at : Option ℕ) → at ≡ stamp_in (get_or v 3 0) (get_or v 4 0) → Line.Pending (get_or v 1 0) at (get_or v 2 0) ≡ line_in v
   unfolding line_in
-  says-pending-never e f = rw (e, f)
-
-  pub says-pending-at : get_or v 0 0 ≡ 1 → (get_or v 3 0 ≡ 0 → ⊥) → Line.Pending (get_or v 1 0) (Stamp.At (get_or v 4 0)) (get_or v 2 0) ≡ line_in v
-  unfolding line_in
-  says-pending-at e f = rw e (ap (λ (s : Stamp). Line.Pending (get_or v 1 0) s (get_or v 2 0)) (stamp-at (get_or v 3 0) (get_or v 4 0) f))
+  says-pending e at f = rw (f, e)
 
   pub says-in-line : get_or v 0 0 ≡ 2 → Line.InLine (get_or v 5 0) (not (eqb (get_or v 6 0) 0)) (not (eqb (get_or v 7 0) 0)) ≡ line_in v
   unfolding line_in
@@ -80,7 +85,7 @@ words_of Line.Failed = refl
 pub line-back : (l : Line) → line_in (line_words l) ≡ l
 unfolding line_in line_words
 line-back (Line.Waiting n since) = refl
-line-back (Line.Pending n at since) = ap (λ (s : Stamp). Line.Pending n s since) (stamp-back at)
+line-back (Line.Pending n at since) = ap (λ (s : Option ℕ). Line.Pending n s since) (stamp-back at)
 line-back (Line.InLine n a b) = rw (bit a, bit b)
   where
     bit : (x : Bool) → flag (flag_of x) ≡ x
@@ -237,12 +242,12 @@ hold-item-ready h w size l e room held k item fits =
 -- an item was put behind the others, and the line counts it
 pub hold-item-done : (h : ℕ) (w : List ℕ) → length w ≡ 7 * h + 64 → (l l' : Line) → l ≡ head_line w → (held : ℕ) → held ≡ held_of l → (item : Item) (ys : List ℕ)
     → length ys ≡ 4 * h + 32 → items_in (held + 1) ys ≡ items_in held (item_words h w) ++ (item ∷ [])
-    → ((v u : List ℕ) (x : Item) → items_in (held_of l + 1) v ≡ items_in (held_of l) u ++ (x ∷ []) → line_of l' v ≡ holding x (line_of l u))
+    → ((u : List ℕ) (x : Item) → Stands l' (holding x (line_of l u)))
     → (z : List ℕ) → z ≡ back 1 9 (line_words l') (back 32 (4 * h + 64) ys w)
     → conn_of h z ≡ with_line (holding item (conn_of h w).line) (conn_of h w)
 unfolding conn_of
 hold-item-done h w size l l' e held k item ys n put more z q =
-    let m : line_of l' ys ≡ holding item (line_of l (item_words h w)) = more ys (item_words h w) item (rw k at put) in
+    let m : line_of l' ys ≡ holding item (line_of l (item_words h w)) = more-reads l l' item (item_words h w) ys (more (item_words h w) item) (rw k at put) in
     ap (conn_of h) q ∙ item-back-conn h w size ys n l' ∙ ap (λ (x : Rules.Line). with_line x (conn_of h w)) (m ∙ ap (λ (x : Line). holding item (line_of x (item_words h w))) e)
 
 -- a print was put behind the others, and the area counts it

@@ -2,7 +2,7 @@
 use mathlib.Core.Path.{◌≡◌, refl, sym, ap, ◌∙◌}
 use mathlib.Core.Logic.{inl, inr, ⊎_elim}
 use mathlib.Core.List.{List}
-use Prim.Native.Nat.{ℕ, ◌+◌, ◌-◌, ◌*◌, ◌≤◌, ◌<◌}
+use Prim.Native.Nat.{min, ℕ, ◌+◌, ◌-◌, ◌*◌, ◌≤◌, ◌<◌}
 use native.Mathlib.Omega.{arith}
 use lib.ListN.{length, get_or, get_or-eq_default}
 use Rattle.rules.specs.declared.Item.{Item}
@@ -18,11 +18,11 @@ use Rattle.lines.specs.Line.{line_of, held_of}
 use Rattle.lines.specs.Area.{line_in, print_in, prints_in, item_words, print_words, head_line, print_count, line_limit, conn_of, area_at, TwoAreas, Enough, AreaCopied}
 
 -- as many words as the items are
-pub items-enough : (h held : ℕ) (w : List ℕ) (l : Line) → l ≡ head_line w → held ≡ held_of l → (r : ℕ) → 4 * held ≤ r → r ≤ 4 * h + 32
+pub items-enough : (h held : ℕ) (w : List ℕ) (l : Line) → l ≡ head_line w → held ≡ held_of l → (r : ℕ) → r ≡ 4 * min held (h + 8)
     → Enough (4 * held_of (head_line w)) (4 * h + 32) r
-items-enough h held w l e k r a b =
+items-enough h held w l e k r a =
     let q : held ≡ held_of (head_line w) = k ∙ ap held_of e in
-    record { inside = b; all = λ j c d. omega arith }
+    record { inside = omega arith; all = λ j c d. omega arith }
 
 -- ---- the same words say the same
 

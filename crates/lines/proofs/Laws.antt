@@ -1,4 +1,5 @@
 -- Laws of a line by value: what it stands for, and what its steps leave.
+use Rattle.std.specs.Prelude.{Option, None, Some}
 use mathlib.Core.Path.{◌≡◌, refl, sym, ap, ◌∙◌}
 use mathlib.Core.List.{List, [], ◌∷◌, ◌++◌}
 use mathlib.Core.Bool.{Bool, true, false, cond}
@@ -9,8 +10,7 @@ use lib.Dec.{leb, ltb}
 use lib.ListN.{length, get_or, length-append}
 use borrow.Author.Tests.{le-leb, lt-leb, lt-ltb, le-ltb}
 use Rattle.rules.specs.declared.Item.{Item}
-use Rattle.rules.specs.declared.Stamp.{Stamp}
-use Rattle.rules.specs.declared.Stamp.TheVariants as Stamp
+use Rattle.rules.specs.declared.Item.TheVariants as Item
 use Rattle.rules.specs.Quantities.{Key, no_key, same, age, align_timeout, max_number}
 use Rattle.rules.specs.Lines as Rules
 use Rattle.rules.specs.Lines.{items_of}
@@ -24,7 +24,7 @@ use Rattle.lines.specs.declared.Line.{Line}
 use Rattle.lines.specs.declared.Line.TheVariants as Line
 use Rattle.lines.specs.declared.Aging.{Aging}
 use Rattle.lines.specs.declared.Aging.TheVariants as Aging
-use Rattle.lines.specs.Line.{line_of, held_of, Stands, copy_step, end_step, event_step, snapshot_step, time_step, Ages}
+use Rattle.lines.specs.Line.{line_of, held_of, holding, Stands, copy_step, end_step, event_step, snapshot_step, time_step, Ages}
 
 -- ---- the items that a line counts
 
@@ -50,7 +50,7 @@ one_more n w x = let a = length-append (items_in n w) (x ∷ []) in let b = item
 pub stands-waiting : (is : List Item) (n since : ℕ) → n ≡ length is → Stands (Line.Waiting n since) (Rules.Waiting is since)
 stands-waiting is n since e = record { held = e; reads = λ v q. ap (λ (x : List Item). Rules.Waiting x since) q }
 
-pub stands-pending : (is : List Item) (n : ℕ) (at : Stamp) (since : ℕ) → n ≡ length is → Stands (Line.Pending n at since) (Rules.Pending is at since)
+pub stands-pending : (is : List Item) (n : ℕ) (at : Option ℕ) (since : ℕ) → n ≡ length is → Stands (Line.Pending n at since) (Rules.Pending is at since)
 stands-pending is n at since e = record { held = e; reads = λ v q. ap (λ (x : List Item). Rules.Pending x at since) q }
 
 pub stands-in-line : (n : ℕ) (a b : Bool) → Stands (Line.InLine n a b) (Rules.InLine n a b)
@@ -75,6 +75,14 @@ stands-over s n v q = s.reads v (ap (λ (m : ℕ). items_in m v) (s.held ∙ ap 
 pub stands-empty : {r : Line} {l : Rules.Line} → Stands r l → items_of l ≡ [] → (v : List ℕ) → line_of r v ≡ l
 stands-empty s e v = stands-over s 0 v (items-none v ∙ sym e)
 
+-- one item more: over words that hold it behind the others it is the line with that item
+pub more-reads : (l l' : Line) (item : Item) (u v : List ℕ) → Stands l' (holding item (line_of l u)) → items_in (held_of l + 1) v ≡ items_in (held_of l) u ++ (item ∷ [])
+    → line_of l' v ≡ holding item (line_of l u)
+more-reads (Line.Waiting n since) l' item u v s q = stands-over s (n + 1) v q
+more-reads (Line.Pending n at since) l' item u v s q = stands-over s (n + 1) v q
+more-reads (Line.InLine n a b) l' item u v s q = stands-empty s refl v
+more-reads Line.Failed l' item u v s q = stands-empty s refl v
+
 -- ---- a book event
 
 -- more items than h, or fewer
@@ -83,6 +91,27 @@ items-full h n w l = ap (leb h) (items-length n w) ∙ le-leb h n l
 
 pub items-room : (h n : ℕ) (w : List ℕ) → n < h → leb h (length (items_in n w)) ≡ false
 items-room h n w l = ap (leb h) (items-length n w) ∙ lt-leb h n l
+
+-- a line that is neither in line nor out holds n items
+abbrev pub Holds : Line → ℕ → Type 0
+Holds (Line.Waiting m since) n = m ≡ n
+Holds (Line.Pending m at since) n = m ≡ n
+Holds (Line.InLine next a b) n = ⊥
+Holds Line.Failed n = ⊥
+
+module _ (limit base : ℕ) (ks : List Key) (k : Key) (msg : ℕ) where
+  pub event-fails : (r : Line) (n : ℕ) (w : List ℕ) → Holds r n → limit ≤ n → event_step limit base ks k msg (line_of r w) ≡ (Rules.Failed, word failed 0 0)
+  event-fails (Line.Waiting m since) n w e l = rw (items-full limit m w (omega arith))
+  event-fails (Line.Pending m at since) n w e l = rw (items-full limit m w (omega arith))
+  event-fails (Line.InLine next a b) n w e l = absurd e
+  event-fails Line.Failed n w e l = absurd e
+
+  pub event-held : (r : Line) (n : ℕ) (w : List ℕ) → Holds r n → n < limit
+      → event_step limit base ks k msg (line_of r w) ≡ (holding (Item.Event k msg) (line_of r w), word held 0 0)
+  event-held (Line.Waiting m since) n w e l = rw (items-room limit m w (omega arith))
+  event-held (Line.Pending m at since) n w e l = rw (items-room limit m w (omega arith))
+  event-held (Line.InLine next a b) n w e l = absurd e
+  event-held Line.Failed n w e l = absurd e
 
 -- to a line in line: n is its next number, and the log's keys are f 0, f 1, ..
 module _ (h base count : ℕ) (f : ℕ → Key) (k : Key) (msg n : ℕ) (a b : Bool) where
@@ -153,10 +182,10 @@ either l false x y p q = q
 pub time-left : (base now : ℕ) (l : Rules.Line) → Leaves l (time_step base now l)
 time-left base now (Rules.Waiting is since) =
     let l = Rules.Waiting is since in either l (leb align_timeout (age now since)) (Rules.Failed, Aging.Fails) (l, Aging.Stays) refl refl
-time-left base now (Rules.Pending is Stamp.Never since) =
-    let l = Rules.Pending is Stamp.Never since in either l (leb align_timeout (age now since)) (Rules.Failed, Aging.Fails) (l, Aging.Stays) refl refl
-time-left base now (Rules.Pending is (Stamp.At t) since) =
-    let l = Rules.Pending is (Stamp.At t) since in either l (leb align_timeout (age now since)) (l, Aging.Rebuilds) (l, Aging.Stays) refl refl
+time-left base now (Rules.Pending is None since) =
+    let l = Rules.Pending is None since in either l (leb align_timeout (age now since)) (Rules.Failed, Aging.Fails) (l, Aging.Stays) refl refl
+time-left base now (Rules.Pending is (Some t) since) =
+    let l = Rules.Pending is (Some t) since in either l (leb align_timeout (age now since)) (l, Aging.Rebuilds) (l, Aging.Stays) refl refl
 time-left base now (Rules.InLine n a b) = let l = Rules.InLine n a b in either l (ltb n base) (Rules.Failed, Aging.Fails) (l, Aging.Stays) refl refl
 time-left base now Rules.Failed = refl
 

@@ -1,4 +1,5 @@
 -- The rules' calls on a line are the steps of Line.
+use Rattle.std.specs.Prelude.{Option, None, Some}
 use mathlib.Core.Path.{◌≡◌, refl, sym, ap, ◌∙◌}
 use mathlib.Core.List.{List, [], ◌∷◌, ◌++◌}
 use mathlib.Core.Bool.{Bool, true, false, cond}
@@ -9,8 +10,6 @@ use lib.ListN.{length, get_or, length-map}
 use borrow.Author.Tests.{le-leb, leb-true}
 use Rattle.rules.specs.declared.Item.{Item}
 use Rattle.rules.specs.declared.Item.TheVariants as Item
-use Rattle.rules.specs.declared.Stamp.{Stamp}
-use Rattle.rules.specs.declared.Stamp.TheVariants as Stamp
 use Rattle.rules.specs.Quantities.{Key, no_key, same, age, align_timeout, max_number}
 use Rattle.rules.specs.Log.{keys, end}
 use Rattle.rules.specs.Lines.{Line, Waiting, Pending, InLine, Failed, Market, conn_at, is_pending, item_count, set_line}
@@ -83,12 +82,12 @@ pub time-steps : TimeSteps
 unfolding turn time_out
 time-steps = record { turns = turns; ends = ends }
   where
-    ends : (i : ℕ) (is : List Item) (at : Stamp) (since now : ℕ) (w : Work)
+    ends : (i : ℕ) (is : List Item) (at : Option ℕ) (since now : ℕ) (w : Work)
         → time_out i is at since now w ≡ after_time i now w (time_step w.market.log.base now (Pending is at since))
-    ends i is Stamp.Never since now w =
-        through (after_time i now w) (leb align_timeout (age now since)) (Failed, Aging.Fails) (Pending is Stamp.Never since, Aging.Stays)
-    ends i is (Stamp.At t) since now w =
-        let l = Pending is (Stamp.At t) since in
+    ends i is None since now w =
+        through (after_time i now w) (leb align_timeout (age now since)) (Failed, Aging.Fails) (Pending is None since, Aging.Stays)
+    ends i is (Some t) since now w =
+        let l = Pending is (Some t) since in
         through (after_time i now w) (leb align_timeout (age now since)) (l, Aging.Rebuilds) (l, Aging.Stays)
 
     turns : (i : ℕ) (due same_view : Bool) (now : ℕ) (w : Work) (l : Line) → is_pending l ≡ false

@@ -1,8 +1,6 @@
 -- The reading of a line's area: 7h + 64 words. Word 0 is the connection, words 1 to 8 the line, word 9 how many prints are held, word 10
 -- the line's limit (request 5); from word 32 on h + 8 items of four words, and behind them h held prints of three words (key, key, message).
-use Rattle.std.specs.Prelude.{◌≡◌, List, [], ◌∷◌, Bool, true, false, ℕ, zero, suc, ◌+◌, ◌*◌, ◌≤◌, ◌<◌, length, get_or}
-use Rattle.rules.specs.declared.Stamp.{Stamp}
-use Rattle.rules.specs.declared.Stamp.TheVariants as Stamp
+use Rattle.std.specs.Prelude.{Option, None, Some, ◌≡◌, List, [], ◌∷◌, Bool, true, false, ℕ, zero, suc, ◌+◌, ◌*◌, ◌≤◌, ◌<◌, length, get_or}
 use Rattle.rules.specs.Quantities.{Key, key}
 use Rattle.rules.specs.Lines as Rules
 use Rattle.rules.specs.Lines.{Connection}
@@ -16,9 +14,9 @@ abbrev pub flag : ℕ → Bool
 flag zero = false
 flag (suc n) = true
 
-abbrev pub stamp_in : ℕ → ℕ → Stamp
-stamp_in zero t = Stamp.Never
-stamp_in (suc f) t = Stamp.At t
+abbrev pub stamp_in : ℕ → ℕ → Option ℕ
+stamp_in zero t = None
+stamp_in (suc f) t = Some t
 
 -- by kind: 0 Waiting, 1 Pending, 2 in line, any other Failed
 abbrev pub by_kind : ℕ → Line → Line → Line → Line
@@ -40,13 +38,13 @@ abbrev pub flag_of : Bool → ℕ
 flag_of false = 0
 flag_of true = 1
 
-abbrev pub stamp_flag : Stamp → ℕ
-stamp_flag Stamp.Never = 0
-stamp_flag (Stamp.At t) = 1
+abbrev pub stamp_flag : Option ℕ → ℕ
+stamp_flag None = 0
+stamp_flag (Some t) = 1
 
-abbrev pub stamp_time : Stamp → ℕ
-stamp_time Stamp.Never = 0
-stamp_time (Stamp.At t) = t
+abbrev pub stamp_time : Option ℕ → ℕ
+stamp_time None = 0
+stamp_time (Some t) = t
 
 unfoldable pub line_words : Line → List ℕ
 line_words (Line.Waiting n since) = 0 ∷ n ∷ since ∷ 0 ∷ 0 ∷ 0 ∷ 0 ∷ 0 ∷ []

@@ -1,9 +1,7 @@
 -- The reading of a line by value: its items are the first of its item area. What its steps make of a line.
-use Rattle.std.specs.Prelude.{◌≡◌, List, [], ◌∷◌, ◌++◌, Bool, false, not, ◌&&◌, cond, ℕ, suc, ◌+◌, ◌-◌, leb, ltb, length, get_or}
-use Rattle.std.proofs.Math.Option.{Option, none, some}
+use Rattle.std.specs.Prelude.{Option, None, Some, ◌≡◌, List, [], ◌∷◌, ◌++◌, Bool, false, not, ◌&&◌, cond, ℕ, suc, ◌+◌, ◌-◌, leb, ltb, length, get_or}
 use Rattle.rules.specs.declared.Item.{Item}
 use Rattle.rules.specs.declared.Item.TheVariants as Item
-use Rattle.rules.specs.declared.Stamp.TheVariants as Stamp
 use Rattle.rules.specs.Lists.{any}
 use Rattle.rules.specs.Quantities.{Key, no_key, same, age, stamped, align_timeout, max_number}
 use Rattle.rules.specs.Lines as Rules
@@ -19,7 +17,6 @@ use Rattle.lines.specs.declared.Aging.{Aging}
 use Rattle.lines.specs.declared.Aging.TheVariants as Aging
 use Rattle.lines.specs.declared.Aged.{Aged}
 use Rattle.lines.specs.declared.Claim.{Claim}
-use Rattle.lines.specs.declared.Claim.TheVariants as Claim
 
 abbrev pub line_of : Line → List ℕ → Rules.Line
 line_of (Line.Waiting n since) w = Rules.Waiting (items_in n w) since
@@ -48,7 +45,7 @@ holding item Rules.Failed = Rules.Failed
 
 -- a Waiting line whose snapshot is complete
 abbrev pub complete : ℕ → Rules.Line → Rules.Line
-complete now (Rules.Waiting is since) = Rules.Pending is (Stamp.At now) now
+complete now (Rules.Waiting is since) = Rules.Pending is (Some now) now
 complete now (Rules.Pending is at since) = Rules.Pending is at since
 complete now (Rules.InLine n a b) = Rules.InLine n a b
 complete now Rules.Failed = Rules.Failed
@@ -68,9 +65,12 @@ snapshot_quiet now (Rules.InLine n a b) = false
 snapshot_quiet now Rules.Failed = false
 
 -- a claim of the code, as the rules write it
-abbrev pub claim_of : Claim → Option (ℕ × ℕ)
-claim_of Claim.Nothing = none
-claim_of (Claim.Of pending time) = some (pending, time)
+abbrev pub claim_words : Claim → ℕ × ℕ
+claim_words c = (cond c.pending 1 0, c.time)
+
+abbrev pub claim_of : Option Claim → Option (ℕ × ℕ)
+claim_of None = None
+claim_of (Some c) = Some (claim_words c)
 
 -- a step's line and answer are the rules'
 pub record Steps (r : Stepped) (x : Rules.Line × Said) : Type 0 where

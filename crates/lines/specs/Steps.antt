@@ -1,6 +1,5 @@
 -- The rules' calls on a line are the steps of Line, with what the market adds to them.
-use Rattle.std.specs.Prelude.{◌≡◌, List, [], Bool, false, cond, ℕ}
-use Rattle.rules.specs.declared.Stamp.{Stamp}
+use Rattle.std.specs.Prelude.{Option, ◌≡◌, List, [], Bool, false, cond, ℕ}
 use Rattle.rules.specs.declared.Item.{Item}
 use Rattle.rules.specs.Quantities.{Key, snapshot_out}
 use Rattle.rules.specs.Log.{keys, end, stamp}
@@ -83,4 +82,4 @@ aged i now w l = after_time i now w (time_step w.market.log.base now l)
 -- a line that is not pending has no turn but this; a pending one comes to it last
 pub record TimeSteps : Type 0 where
   pub turns : (i : ℕ) (due same_view : Bool) (now : ℕ) (w : Work) (l : Line) → is_pending l ≡ false → turn i due same_view now w l ≡ aged i now w l
-  pub ends : (i : ℕ) (is : List Item) (at : Stamp) (since now : ℕ) (w : Work) → time_out i is at since now w ≡ aged i now w (Pending is at since)
+  pub ends : (i : ℕ) (is : List Item) (at : Option ℕ) (since now : ℕ) (w : Work) → time_out i is at since now w ≡ aged i now w (Pending is at since)

@@ -7,12 +7,12 @@ ghost use Rattle.rules.specs.Sound.{Known};
 ghost use Rattle.words.specs.Words.{back, Says};
 ghost use Rattle.place.specs.Items.{kind_of, items_in};
 ghost use Rattle.lines.specs.Line.{line_of, held_of, holding};
-ghost use Rattle.lines.specs.Area.{flag_of, line_in, line_words, head_line, print_in, prints_in, item_words, print_count, no_print};
+ghost use Rattle.lines.specs.Area.{stamp_in, line_in, line_words, head_line, print_in, prints_in, item_words, print_count, no_print};
 ghost use Rattle.lines.specs.Area.{conn_of, Fit, TwoAreas, Enough, AreaCopied};
 ghost use Rattle.lines.specs.AreaSound.{LineFits, AreaSound};
 
 use crate::Line;
-use rules::{EventKey, Item, Stamp};
+use rules::{EventKey, Item};
 
 // An area's connection.
 pub fn conn(area: &[u64]) -> u64
@@ -30,46 +30,34 @@ pub fn limit(area: &[u64]) -> usize
     area[10] as usize
 }
 
-fn flag_of(b: bool) -> u64
-    ensures { result ≡ flag_of b }
-{
-    if b { 1 } else { 0 }
-}
-
 // The line that eight words say.
 fn line_of(head: &[u64]) -> Line
     requires { length head.now ≡ 8 }
     ensures { result ≡ line_in head.now }
 {
-    let kind = head[0];
     let items = head[1] as usize;
     let since = head[2];
-    let flag = head[3];
-    if kind == 0 {
-        return Line::Waiting { items, since };
-    }
-    if kind == 1 {
-        if flag == 0 {
-            return Line::Pending {
-                items,
-                snapshot: Stamp::Never,
-                since,
-            };
-        }
-        return Line::Pending {
+    match head[0] {
+        0 => Line::Waiting { items, since },
+        1 => Line::Pending {
             items,
-            snapshot: Stamp::At(head[4]),
+            snapshot: stamp(head[3], head[4]),
             since,
-        };
-    }
-    if kind == 2 {
-        return Line::InLine {
+        },
+        2 => Line::InLine {
             next: head[5],
             due0: head[6] != 0,
             due1: head[7] != 0,
-        };
+        },
+        _ => Line::Failed,
     }
-    Line::Failed
+}
+
+// A time with its flag: none where that is 0.
+pub fn stamp(flag: u64, t: u64) -> Option<u64>
+    ensures { result ≡ stamp_in flag t }
+{
+    if flag == 0 { None } else { Some(t) }
 }
 
 // An area's line.
@@ -85,23 +73,35 @@ fn put_line(head: &mut [u64], line: Line)
     requires { length head.old ≡ 8 }
     ensures { head.new ≡ line_words line }
 {
-    match line {
-        Line::Waiting { items, since } => words::put8(head, 0, items as u64, since, 0, 0, 0, 0, 0),
+    let words = match line {
+        Line::Waiting { items, since } => [0, items as u64, since, 0, 0, 0, 0, 0],
         Line::Pending {
             items,
             snapshot,
             since,
-        } => match snapshot {
-            Stamp::Never => words::put8(head, 1, items as u64, since, 0, 0, 0, 0, 0),
-            Stamp::At(t) => words::put8(head, 1, items as u64, since, 1, t, 0, 0, 0),
-        },
-        Line::InLine { next, due0, due1 } => {
-            let a = flag_of(due0);
-            let b = flag_of(due1);
-            words::put8(head, 2, 0, 0, 0, 0, next, a, b)
-        }
-        Line::Failed => words::put8(head, 3, 0, 0, 0, 0, 0, 0, 0),
-    }
+        } => [
+            1,
+            items as u64,
+            since,
+            u64::from(snapshot.is_some()),
+            snapshot.unwrap_or(0),
+            0,
+            0,
+            0,
+        ],
+        Line::InLine { next, due0, due1 } => [
+            2,
+            0,
+            0,
+            0,
+            0,
+            next,
+            u64::from(due0),
+            u64::from(due1),
+        ],
+        Line::Failed => [3, 0, 0, 0, 0, 0, 0, 0],
+    };
+    head.copy_from_slice(&words);
 }
 
 // Gives an area another line; its items and held prints stay.
@@ -117,8 +117,7 @@ pub fn items(area: &[u64], h: usize) -> &[u64]
     requires { 4 * h + 64 ≤ length area.now }
     ensures { result.now ≡ item_words h area.now }
 {
-    let e = 4 * h + 64;
-    &area[32..e]
+    &area[32..4 * h + 64]
 }
 
 // Holds an item behind the others.
@@ -127,9 +126,7 @@ pub fn hold_item(area: &mut [u64], h: usize, item: Item)
     ensures { conn_of h area.new ≡ with_line (holding item (conn_of h area.old).line) (conn_of h area.old) }
 {
     let line = line(area);
-    let held = line.held();
-    let e = 4 * h + 64;
-    place::put_item(&mut area[32..e], held, item);
+    place::put_item(&mut area[32..4 * h + 64], line.held(), item);
     set_line(area, line.more());
 }
 
@@ -146,8 +143,7 @@ fn has_key(prints: &[u64], i: usize, key: EventKey) -> bool
     requires { 3 * i + 2 < length prints.now }
     ensures { result ≡ same (print_in prints.now i).0 key }
 {
-    let p = 3 * i;
-    event_log::same_key(EventKey(prints[p], prints[p + 1]), key)
+    EventKey(prints[3 * i], prints[3 * i + 1]) == key
 }
 
 // Whether a print of this key is among the first n.
@@ -155,12 +151,10 @@ fn among(prints: &[u64], n: usize, key: EventKey) -> bool
     requires { 3 * n ≤ length prints.now }
     ensures { result ≡ any (λ p. same p.0 key) (prints_in n prints.now) }
 {
-    let mut i = 0;
-    while i < n {
+    for i in 0..n {
         if has_key(prints, i, key) {
             return true;
         }
-        i += 1;
     }
     false
 }
@@ -170,13 +164,10 @@ pub fn holds_print(area: &[u64], h: usize, key: EventKey) -> bool
     requires { Fit h area.now }
     ensures { result ≡ any (λ p. same p.0 key) (conn_of h area.now).held }
 {
-    let n = area[9] as usize;
-    let a = 4 * h + 64;
-    let e = 7 * h + 64;
-    among(&area[a..e], n, key)
+    among(&area[4 * h + 64..7 * h + 64], prints_held(area), key)
 }
 
-#[derive(Clone, Copy)]
+#[derive(Clone, Copy, Debug, PartialEq, Eq)]
 pub struct HeldPrint {
     pub key: EventKey,
     pub message: u64,
@@ -199,9 +190,7 @@ pub fn print_at(area: &[u64], h: usize, i: usize) -> HeldPrint
     requires { (Fit h area.now) × (i < print_count area.now) }
     ensures { (result.key, result.message) ≡ get_or (conn_of h area.now).held i no_print }
 {
-    let a = 4 * h + 64;
-    let e = 7 * h + 64;
-    print_in(&area[a..e], i)
+    print_in(&area[4 * h + 64..7 * h + 64], i)
 }
 
 // Gives an area another count of held prints.
@@ -217,9 +206,8 @@ fn put_print(prints: &mut [u64], n: usize, key: EventKey, message: u64)
     requires { 3 * n + 3 ≤ length prints.old }
     ensures { prints_in (n + 1) prints.new ≡ prints_in n prints.old ++ ((key, message) ∷ []) }
 {
-    let a = 3 * n;
-    let e = a + 3;
-    words::put3(&mut prints[a..e], key.0, key.1, message);
+    let at = 3 * n;
+    prints[at..at + 3].copy_from_slice(&[key.0, key.1, message]);
 }
 
 // Holds a print behind the others.
@@ -227,10 +215,8 @@ pub fn hold_print(area: &mut [u64], h: usize, key: EventKey, message: u64)
     requires { (Fit h area.old) × (print_count area.old < h) }
     ensures { conn_of h area.new ≡ with_held ((conn_of h area.old).held ++ ((key, message) ∷ [])) (conn_of h area.old) }
 {
-    let n = area[9] as usize;
-    let a = 4 * h + 64;
-    let e = 7 * h + 64;
-    put_print(&mut area[a..e], n, key, message);
+    let n = prints_held(area);
+    put_print(&mut area[4 * h + 64..7 * h + 64], n, key, message);
     set_prints(area, n + 1);
 }
 
@@ -258,11 +244,7 @@ fn item_words_used(area: &[u64], h: usize) -> usize
     requires { length area.now ≡ 7 * h + 64 }
     ensures { Enough (4 * held_of (head_line area.now)) (4 * h + 32) result }
 {
-    let held = line(area).held();
-    if h + 8 < held {
-        return 4 * h + 32;
-    }
-    4 * held
+    4 * line(area).held().min(h + 8)
 }
 
 // How many of the held prints' words they are, likewise.
@@ -270,11 +252,7 @@ fn print_words_used(area: &[u64], h: usize) -> usize
     requires { length area.now ≡ 7 * h + 64 }
     ensures { Enough (3 * print_count area.now) (3 * h) result }
 {
-    let n = area[9] as usize;
-    if h < n {
-        return 3 * h;
-    }
-    3 * n
+    3 * prints_held(area).min(h)
 }
 
 // Copies the area at `from` to the place `to`: of its words those that say something.
@@ -299,12 +277,10 @@ fn items_sound(items: &[u64], n: usize, h: usize) -> bool
     if h + 8 < n {
         return false;
     }
-    let mut i = 0;
-    while i < n {
+    for i in 0..n {
         if 2 < items[4 * i] {
             return false;
         }
-        i += 1;
     }
     true
 }
@@ -315,8 +291,7 @@ fn line_sound(items: &[u64], line: Line, h: usize, end: u64) -> bool
     ensures { Says result (LineFits h end (line_of line items.now)) }
 {
     match line {
-        Line::Waiting { items: n, .. } => items_sound(items, n, h),
-        Line::Pending { items: n, .. } => items_sound(items, n, h),
+        Line::Waiting { items: n, .. } | Line::Pending { items: n, .. } => items_sound(items, n, h),
         Line::InLine { next, .. } => next <= end,
         Line::Failed => true,
     }

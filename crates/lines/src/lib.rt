@@ -13,11 +13,11 @@ ghost use Rattle.rules.specs.Calls.{claim, pending_anew};
 ghost use Rattle.rules.specs.Tick.{out_of_line};
 ghost use Rattle.rules.specs.Refusals.{can_serve};
 ghost use Rattle.place.specs.Items.{items_in};
-ghost use Rattle.lines.specs.Line.{line_of, held_of, holding, complete, holds_both, taken_over, snapshot_quiet, claim_of};
+ghost use Rattle.lines.specs.Line.{line_of, held_of, Stands, holding, complete, holds_both, taken_over, snapshot_quiet, claim_of};
 
-use rules::{Stamp, Step};
+use rules::{Refusal, Step};
 
-#[derive(Clone, Copy)]
+#[derive(Clone, Copy, Debug, PartialEq, Eq)]
 pub enum Line {
     // Subscribed; how many items came so far.
     Waiting {
@@ -27,7 +27,7 @@ pub enum Line {
     // Holding its events until they line up with the log; when its snapshot completed, if one counts.
     Pending {
         items: usize,
-        snapshot: Stamp,
+        snapshot: Option<u64>,
         since: u64,
     },
     // The number of its next book event; the tokens whose snapshot is due.
@@ -41,14 +41,14 @@ pub enum Line {
 }
 
 // A line that took a step, and its answer.
-#[derive(Clone, Copy)]
+#[derive(Clone, Copy, Debug, PartialEq, Eq)]
 pub struct Stepped {
     pub line: Line,
-    pub step: Step,
+    pub step: Result<Step, Refusal>,
 }
 
 // What time makes of a line; or that the market is rebuilt from it.
-#[derive(Clone, Copy)]
+#[derive(Clone, Copy, Debug, PartialEq, Eq)]
 pub enum Aging {
     Stays,
     Fails,
@@ -56,17 +56,18 @@ pub enum Aging {
 }
 
 // A line as time left it.
-#[derive(Clone, Copy)]
+#[derive(Clone, Copy, Debug, PartialEq, Eq)]
 pub struct Aged {
     pub line: Line,
     pub aging: Aging,
 }
 
-// A line's claim to be the source of a new book: pending with a snapshot before waiting with one, then the later time.
-#[derive(Clone, Copy)]
-pub enum Claim {
-    Nothing,
-    Of { pending: u64, time: u64 },
+// A line's claim to be the source of a new book: the later time of a snapshot that is complete, before the later since of a line that
+// waits for the rest of its own.
+#[derive(Clone, Copy, Debug, PartialEq, Eq, PartialOrd, Ord)]
+pub struct Claim {
+    pub pending: bool,
+    pub time: u64,
 }
 
 impl Line {
@@ -77,37 +78,33 @@ impl Line {
         Line::Waiting { items: 0, since: t }
     }
 
+    // Pending since t, without items, and no snapshot of it counts.
+    fn pending_since(t: u64) -> Line
+        ensures { (w : List ℕ) → line_of result w ≡ Rules.Pending [] None t }
+    {
+        Line::Pending {
+            items: 0,
+            snapshot: None,
+            since: t,
+        }
+    }
+
     pub fn in_line(self) -> bool
         ensures { (w : List ℕ) → result ≡ is_in_line (line_of self w) }
     {
-        match self {
-            Line::Waiting { .. } => false,
-            Line::Pending { .. } => false,
-            Line::InLine { .. } => true,
-            Line::Failed => false,
-        }
+        matches!(self, Line::InLine { .. })
     }
 
     pub fn pending(self) -> bool
         ensures { (w : List ℕ) → result ≡ is_pending (line_of self w) }
     {
-        match self {
-            Line::Waiting { .. } => false,
-            Line::Pending { .. } => true,
-            Line::InLine { .. } => false,
-            Line::Failed => false,
-        }
+        matches!(self, Line::Pending { .. })
     }
 
     pub fn failed(self) -> bool
         ensures { (w : List ℕ) → result ≡ is_failed (line_of self w) }
     {
-        match self {
-            Line::Waiting { .. } => false,
-            Line::Pending { .. } => false,
-            Line::InLine { .. } => false,
-            Line::Failed => true,
-        }
+        matches!(self, Line::Failed)
     }
 
     // In line, and a snapshot is due.
@@ -115,10 +112,8 @@ impl Line {
         ensures { (w : List ℕ) → result ≡ is_due (line_of self w) }
     {
         match self {
-            Line::Waiting { .. } => false,
-            Line::Pending { .. } => false,
-            Line::InLine { due0, due1, .. } => due0 | due1,
-            Line::Failed => false,
+            Line::InLine { due0, due1, .. } => due0 || due1,
+            _ => false,
         }
     }
 
@@ -127,10 +122,8 @@ impl Line {
         ensures { (w : List ℕ) → result ≡ length (items_of (line_of self w)) }
     {
         match self {
-            Line::Waiting { items, .. } => items,
-            Line::Pending { items, .. } => items,
-            Line::InLine { .. } => 0,
-            Line::Failed => 0,
+            Line::Waiting { items, .. } | Line::Pending { items, .. } => items,
+            Line::InLine { .. } | Line::Failed => 0,
         }
     }
 
@@ -139,12 +132,8 @@ impl Line {
         ensures { (w : List ℕ) → result ≡ can_serve (line_of self w) }
     {
         match self {
-            Line::Waiting { .. } => true,
-            Line::Pending { snapshot, .. } => match snapshot {
-                Stamp::Never => false,
-                Stamp::At(_) => true,
-            },
-            Line::InLine { .. } => true,
+            Line::Pending { snapshot, .. } => snapshot.is_some(),
+            Line::Waiting { .. } | Line::InLine { .. } => true,
             Line::Failed => false,
         }
     }
@@ -154,22 +143,8 @@ impl Line {
         ensures { (w : List ℕ) → line_of result w ≡ pending_anew t (line_of self w) }
     {
         match self {
-            Line::Waiting { .. } => Line::Pending {
-                items: 0,
-                snapshot: Stamp::Never,
-                since: t,
-            },
-            Line::Pending { .. } => Line::Pending {
-                items: 0,
-                snapshot: Stamp::Never,
-                since: t,
-            },
-            Line::InLine { .. } => Line::Pending {
-                items: 0,
-                snapshot: Stamp::Never,
-                since: t,
-            },
-            Line::Failed => Line::Failed,
+            Line::Failed => self,
+            _ => Line::pending_since(t),
         }
     }
 
@@ -178,14 +153,8 @@ impl Line {
         ensures { (w : List ℕ) → line_of result w ≡ out_of_line t (line_of self w) }
     {
         match self {
-            Line::Waiting { .. } => self,
-            Line::Pending { .. } => self,
-            Line::InLine { .. } => Line::Pending {
-                items: 0,
-                snapshot: Stamp::Never,
-                since: t,
-            },
-            Line::Failed => self,
+            Line::InLine { .. } => Line::pending_since(t),
+            _ => self,
         }
     }
 
@@ -196,20 +165,17 @@ impl Line {
         match self {
             Line::Waiting { items, .. } => Line::Pending {
                 items,
-                snapshot: Stamp::At(t),
+                snapshot: Some(t),
                 since: t,
             },
-            Line::Pending { .. } => self,
-            Line::InLine { .. } => self,
-            Line::Failed => self,
+            _ => self,
         }
     }
 
     // With one item more behind those that it holds.
     pub fn more(self) -> Line
         requires { held_of self < max_number }
-        ensures { (v w : List ℕ) (item : Item) → items_in (held_of self + 1) v ≡ items_in (held_of self) w ++ (item ∷ [])
-            → line_of result v ≡ holding item (line_of self w) }
+        ensures { (w : List ℕ) (item : Item) → Stands result (holding item (line_of self w)) }
     {
         match self {
             Line::Waiting { items, since } => Line::Waiting {
@@ -225,8 +191,7 @@ impl Line {
                 snapshot,
                 since,
             },
-            Line::InLine { .. } => self,
-            Line::Failed => self,
+            Line::InLine { .. } | Line::Failed => self,
         }
     }
 
@@ -235,34 +200,32 @@ impl Line {
         ensures { (w : List ℕ) → result ≡ snapshot_quiet t (line_of self w) }
     {
         match self {
-            Line::Waiting { .. } => false,
             Line::Pending { snapshot, .. } => event_log::quiet(snapshot, t, false),
-            Line::InLine { .. } => false,
-            Line::Failed => false,
+            _ => false,
         }
     }
 
     // Its claim to be the source of a new book.
-    pub fn claim(self, items: &[u64]) -> Claim
+    pub fn claim(self, items: &[u64]) -> Option<Claim>
         requires { 4 * held_of self ≤ length items.now }
         ensures { claim_of result ≡ claim (line_of self items.now) }
     {
         match self {
             Line::Waiting { items: n, since } => {
                 if place::holds_snapshot(items, n) {
-                    return Claim::Of {
-                        pending: 0,
+                    Some(Claim {
+                        pending: false,
                         time: since,
-                    };
+                    })
+                } else {
+                    None
                 }
-                Claim::Nothing
             }
-            Line::Pending { snapshot, .. } => match snapshot {
-                Stamp::Never => Claim::Nothing,
-                Stamp::At(time) => Claim::Of { pending: 1, time },
-            },
-            Line::InLine { .. } => Claim::Nothing,
-            Line::Failed => Claim::Nothing,
+            Line::Pending { snapshot, .. } => snapshot.map(|time| Claim {
+                pending: true,
+                time,
+            }),
+            Line::InLine { .. } | Line::Failed => None,
         }
     }
 
@@ -272,10 +235,7 @@ impl Line {
         ensures { result ≡ holds_both (items_of (line_of self items.now)) }
     {
         let n = self.held();
-        if place::holds_token(items, n, 0) {
-            return place::holds_token(items, n, 1);
-        }
-        false
+        place::holds_token(items, n, 0) && place::holds_token(items, n, 1)
     }
 
     // In line after a take-over: due for each token that it holds no snapshot of.
@@ -284,12 +244,10 @@ impl Line {
         ensures { (w : List ℕ) → line_of result w ≡ taken_over next (items_of (line_of self items.now)) }
     {
         let n = self.held();
-        let has0 = place::holds_token(items, n, 0);
-        let has1 = place::holds_token(items, n, 1);
         Line::InLine {
             next,
-            due0: !has0,
-            due1: !has1,
+            due0: !place::holds_token(items, n, 0),
+            due1: !place::holds_token(items, n, 1),
         }
     }
 

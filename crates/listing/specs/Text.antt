@@ -1,9 +1,10 @@
--- 01, Keys and the program: what a call answers, as text in ASCII.
-use Rattle.std.specs.Prelude.{◌≡◌, List, [], ◌∷◌, ◌++◌, cond, ℕ, zero, suc, ◌+◌, ◌*◌, ◌/◌, ◌%◌, ltb, length, take, drop, get_or}
+-- What a call answers, as text in ASCII.
+use Rattle.std.specs.Prelude.{◌≡◌, Result, Ok, Err, List, [], ◌∷◌, ◌++◌, cond, ℕ, zero, suc, ◌+◌, ◌*◌, ◌/◌, ◌%◌, ltb, length, take, drop, get_or}
 use Rattle.rules.specs.declared.Step.{Step}
 use Rattle.rules.specs.declared.Lost.{Lost}
 use Rattle.rules.specs.declared.Ticked.{Ticked}
-use Rattle.rules.specs.declared.Changed.{Changed}
+use Rattle.rules.specs.declared.refusal.Refusal.{Refusal}
+use Rattle.rules.specs.Answers.{number_of}
 use Rattle.output.specs.Output.{over_at}
 
 -- xs was written into a buffer from place n on, and r is the place behind it
@@ -69,26 +70,26 @@ abbrev pub done_text : List ℕ
 done_text = 100 ∷ 111 ∷ 110 ∷ 101 ∷ line ∷ []
 
 -- a snapshot's, a book event's or a print's answer, and its records
-abbrev pub step_text : Step → List ℕ → List ℕ
-step_text (Step.Apply n) v = (97 ∷ 112 ∷ 112 ∷ 108 ∷ 121 ∷ line ∷ []) ++ all_records (take (7 * n) v)
-step_text Step.Duplicate v = 100 ∷ 117 ∷ 112 ∷ 108 ∷ 105 ∷ 99 ∷ 97 ∷ 116 ∷ 101 ∷ line ∷ []
-step_text Step.Held v = 104 ∷ 101 ∷ 108 ∷ 100 ∷ line ∷ []
-step_text Step.Ignored v = 105 ∷ 103 ∷ 110 ∷ 111 ∷ 114 ∷ 101 ∷ 100 ∷ line ∷ []
-step_text Step.Diverged v = 100 ∷ 105 ∷ 118 ∷ 101 ∷ 114 ∷ 103 ∷ 101 ∷ 100 ∷ line ∷ []
-step_text Step.Failed v = 102 ∷ 97 ∷ 105 ∷ 108 ∷ 101 ∷ 100 ∷ line ∷ []
-step_text (Step.Refused n) v = refused_text n
+abbrev pub step_text : Result Step Refusal → List ℕ → List ℕ
+step_text (Ok (Step.Apply n)) v = (97 ∷ 112 ∷ 112 ∷ 108 ∷ 121 ∷ line ∷ []) ++ all_records (take (7 * n) v)
+step_text (Ok Step.Duplicate) v = 100 ∷ 117 ∷ 112 ∷ 108 ∷ 105 ∷ 99 ∷ 97 ∷ 116 ∷ 101 ∷ line ∷ []
+step_text (Ok Step.Held) v = 104 ∷ 101 ∷ 108 ∷ 100 ∷ line ∷ []
+step_text (Ok Step.Ignored) v = 105 ∷ 103 ∷ 110 ∷ 111 ∷ 114 ∷ 101 ∷ 100 ∷ line ∷ []
+step_text (Ok Step.Diverged) v = 100 ∷ 105 ∷ 118 ∷ 101 ∷ 114 ∷ 103 ∷ 101 ∷ 100 ∷ line ∷ []
+step_text (Ok Step.Failed) v = 102 ∷ 97 ∷ 105 ∷ 108 ∷ 101 ∷ 100 ∷ line ∷ []
+step_text (Err r) v = refused_text (number_of r)
 
 -- a drop's or a promote's
-abbrev pub lost_text : Lost → List ℕ → List ℕ
-lost_text Lost.Kept v = 107 ∷ 101 ∷ 112 ∷ 116 ∷ line ∷ []
-lost_text Lost.Gone v = 103 ∷ 111 ∷ 110 ∷ 101 ∷ line ∷ []
-lost_text (Lost.Rebuild n) v = (114 ∷ 101 ∷ 98 ∷ 117 ∷ 105 ∷ 108 ∷ 100 ∷ line ∷ []) ++ all_records (take (7 * n) v)
-lost_text (Lost.Refused n) v = refused_text n
+abbrev pub lost_text : Result Lost Refusal → List ℕ → List ℕ
+lost_text (Ok Lost.Kept) v = 107 ∷ 101 ∷ 112 ∷ 116 ∷ line ∷ []
+lost_text (Ok Lost.Gone) v = 103 ∷ 111 ∷ 110 ∷ 101 ∷ line ∷ []
+lost_text (Ok (Lost.Rebuild n)) v = (114 ∷ 101 ∷ 98 ∷ 117 ∷ 105 ∷ 108 ∷ 100 ∷ line ∷ []) ++ all_records (take (7 * n) v)
+lost_text (Err r) v = refused_text (number_of r)
 
 -- a subscribe's or a reset's
-abbrev pub changed_text : Changed → List ℕ
-changed_text Changed.Done = done_text
-changed_text (Changed.Refused n) = refused_text n
+abbrev pub changed_text : Result Unit Refusal → List ℕ
+changed_text (Ok u) = done_text
+changed_text (Err r) = refused_text (number_of r)
 
 -- a report's kind: aligned, rebuild, failed
 abbrev pub report_kind : ℕ → List ℕ
@@ -120,6 +121,6 @@ abbrev pub all_reports : List ℕ → List ℕ → List ℕ
 all_reports rs v = reports_text (length rs / 3) rs v
 
 -- a tick's answer, and its reports
-abbrev pub ticked_text : Ticked → List ℕ → List ℕ → List ℕ
-ticked_text (Ticked.Done reports records) rs v = done_text ++ all_reports (take (3 * reports) rs) v
-ticked_text (Ticked.Refused n) rs v = refused_text n
+abbrev pub ticked_text : Result Ticked Refusal → List ℕ → List ℕ → List ℕ
+ticked_text (Ok t) rs v = done_text ++ all_reports (take (3 * t.reports) rs) v
+ticked_text (Err r) rs v = refused_text (number_of r)

@@ -4,7 +4,7 @@ ghost use Rattle.rules.specs.Log.{push, clear};
 ghost use Rattle.event_log.specs.Log.{log_of, Fit};
 
 use event_log::Head;
-use rules::{EventKey, Stamp};
+use rules::EventKey;
 
 // Adds an entry behind the last and sets last-applied.
 pub fn push(area: &mut [u64], g: usize, head: &mut Head, key: EventKey, t: u64)
@@ -13,21 +13,9 @@ pub fn push(area: &mut [u64], g: usize, head: &mut Head, key: EventKey, t: u64)
     ensures fit { (Fit g area.new head.new)
         × ((head.new.base ≡ head.old.base) × (head.new.count ≡ head.old.count + 1)) }
 {
-    let n = head.count;
-    event_log::put(area, g, head.front, n, key, t);
-    head.count = n + 1;
-    head.last = Stamp::At(t);
-}
-
-// Lends a head to `push`.
-pub fn push_head(area: &mut [u64], g: usize, head: Head, key: EventKey, t: u64) -> Head
-    requires { (Fit g area.old head) × (head.count < g) }
-    ensures result_after { log_of g area.new result ≡ push key t (log_of g area.old head) }
-    ensures fit { (Fit g area.new result) × ((result.base ≡ head.base) × (result.count ≡ head.count + 1)) }
-{
-    let mut lent = head;
-    push(area, g, &mut lent, key, t);
-    lent
+    event_log::put(area, g, head.front, head.count, key, t);
+    head.count += 1;
+    head.last = Some(t);
 }
 
 // Forgets the entries; the numbers go on, and the front stays where it is.
@@ -39,15 +27,4 @@ pub fn clear(head: &mut Head)
 {
     head.base += head.count as u64;
     head.count = 0;
-}
-
-// Lends a head to `clear`.
-pub fn clear_head(head: Head) -> Head
-    requires { head.base + head.count < 2 ^ 64 }
-    ensures by_index { (g : ℕ) (w : List ℕ) → log_of g w result ≡ clear (log_of g w head) }
-    ensures base_value { (result.base ≡ head.base + head.count) × ((result.count ≡ 0) × (result.front ≡ head.front)) }
-{
-    let mut lent = head;
-    clear(&mut lent);
-    lent
 }

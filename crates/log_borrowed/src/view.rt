@@ -2,10 +2,9 @@
 ghost use Rattle.std.specs.Prelude.{◌≡◌};
 ghost use Rattle.rules.specs.Log.{key_at};
 ghost use Rattle.event_log.specs.Log.{Ring};
-ghost use Rattle.event_log.specs.Answers.{key_answer, match_answer};
+ghost use Rattle.event_log.specs.Answers.{match_answer};
 ghost use Rattle.log_borrowed.specs.View.{view_of};
 
-use event_log::{KeyAt, Matched};
 use rules::EventKey;
 
 // The words of g keys, the number of the first entry, how many entries there are, and where the first stands.
@@ -18,113 +17,29 @@ pub struct LogView<'a> {
     pub g: usize,
 }
 
-// The key of the event with number n.
-pub fn key_in_keys(keys: &[u64], base: u64, count: usize, front: usize, g: usize, n: u64) -> KeyAt
-    requires { Ring g front count keys.now }
-    ensures { result ≡ key_answer (key_at n (view_of keys.now base count front g)) }
-{
-    if n < base {
-        return KeyAt::Nowhere;
-    }
-    if n - base < count as u64 {
-        let p = event_log::place(g, front, (n - base) as usize);
-        return KeyAt::Key(event_log::key_in(keys, p));
-    }
-    KeyAt::Nowhere
-}
-
-// The same, of a view.
-pub fn key_at<'a>(view: LogView<'a>, n: u64) -> KeyAt
-    requires { Ring view.g view.front view.count view.keys.now }
-    ensures { result ≡ key_answer (key_at n
-        (view_of view.entry.keys.now view.entry.base view.entry.count view.entry.front view.entry.g)) }
-{
-    let keys = view.keys;
-    let base = view.base;
-    let count = view.count;
-    let front = view.front;
-    let g = view.g;
-    key_in_keys(keys, base, count, front, g, n)
-}
-
-// The same, of the view that is made of these.
-pub fn key_at_slice(keys: &[u64], base: u64, count: usize, front: usize, g: usize, n: u64) -> KeyAt
-    requires { Ring g front count keys.now }
-    ensures { result ≡ key_answer (key_at n (view_of keys.now base count front g)) }
-{
-    key_at(
-        LogView {
-            keys,
-            base,
-            count,
-            front,
-            g,
-        },
-        n,
-    )
-}
-
-// A key beside that of the event with number n.
-pub fn match_in_keys(
-    keys: &[u64],
-    base: u64,
-    count: usize,
-    front: usize,
-    g: usize,
-    n: u64,
-    key: EventKey,
-) -> Matched
-    requires { Ring g front count keys.now }
-    ensures { result ≡ match_answer key (key_at n (view_of keys.now base count front g)) }
-{
-    match key_in_keys(keys, base, count, front, g, n) {
-        KeyAt::Key(there) => {
-            if event_log::same_key(there, key) {
-                Matched::Same
-            } else {
-                Matched::Differs
-            }
+impl<'a> LogView<'a> {
+    // The key of the event with number n, where the log has it.
+    pub fn key_at(self, n: u64) -> Option<EventKey>
+        requires { Ring self.g self.front self.count self.keys.now }
+        ensures { result ≡ key_at n (view_of self.entry.keys.now self.entry.base self.entry.count self.entry.front self.entry.g) }
+    {
+        if n < self.base {
+            return None;
         }
-        KeyAt::Nowhere => Matched::Nowhere,
+        let i = n - self.base;
+        if i < self.count as u64 {
+            let p = event_log::place(self.g, self.front, i as usize);
+            return Some(event_log::key_in(self.keys, p));
+        }
+        None
     }
-}
 
-// The same, of a view.
-pub fn match_at<'a>(view: LogView<'a>, n: u64, key: EventKey) -> Matched
-    requires { Ring view.g view.front view.count view.keys.now }
-    ensures { result ≡ match_answer key (key_at n
-        (view_of view.entry.keys.now view.entry.base view.entry.count view.entry.front view.entry.g)) }
-{
-    let keys = view.keys;
-    let base = view.base;
-    let count = view.count;
-    let front = view.front;
-    let g = view.g;
-    match_in_keys(keys, base, count, front, g, n, key)
-}
-
-// The same, of the view that is made of these.
-pub fn match_at_slice(
-    keys: &[u64],
-    base: u64,
-    count: usize,
-    front: usize,
-    g: usize,
-    n: u64,
-    key: EventKey,
-) -> Matched
-    requires { Ring g front count keys.now }
-    ensures { result ≡ match_answer key (key_at n (view_of keys.now base count front g)) }
-{
-    match_at(
-        LogView {
-            keys,
-            base,
-            count,
-            front,
-            g,
-        },
-        n,
-        key,
-    )
+    // Whether a key is that of the event with number n, where the log has it.
+    pub fn match_at(self, n: u64, key: EventKey) -> Option<bool>
+        requires { Ring self.g self.front self.count self.keys.now }
+        ensures { result ≡ match_answer key (key_at n
+            (view_of self.entry.keys.now self.entry.base self.entry.count self.entry.front self.entry.g)) }
+    {
+        self.key_at(n).map(|there| there == key)
+    }
 }

@@ -2,7 +2,7 @@
 use mathlib.Core.Path.{◌≡◌, refl, sym, ap, ◌∙◌, subst}
 use mathlib.Core.List.{List, [], ◌∷◌, map}
 use mathlib.Core.Bool.{Bool, true, false, not, ◌&&◌, ◌||◌, cond}
-use Prim.Native.Nat.{ℕ, suc, ◌+◌, ◌*◌, ◌≤◌, ◌<◌, ◌^◌}
+use Prim.Native.Nat.{ℕ, suc, ◌+◌, ◌*◌, ◌≤◌, ◌<◌}
 use native.Mathlib.Omega.{arith}
 use lib.Dec.{leb, eqb}
 use lib.ListN.{length, get_or-eq_default, length-map}
@@ -19,12 +19,11 @@ use Rattle.rules.specs.Refusals.{messages}
 use Rattle.rules.specs.Answers.{number, word}
 use Rattle.rules.proofs.SoundCalls.{clear-sound, uncounted-sound, subscribe-safe, reset-sound, just-safe}
 use Rattle.place.specs.Items.{items_in}
-use Rattle.store.specs.Store.{limits_of, head_of, line_count, market_of, Sized, Sound}
+use Rattle.store.specs.Store.{limits_of, line_count, market_of, Sound}
 use Rattle.store.specs.Moves.{Moved}
 use Rattle.store.specs.ConnMoves.{items_at, LineAt}
 use Rattle.store.proofs.MarketLaws.{market-limits, lines-count}
 use Rattle.store.proofs.FrameLaws.{moved_on, moved-sound}
-use Rattle.store.proofs.EntryLaws.{counts}
 use Rattle.store.proofs.ConnLaws.{items-inside, items-said, lined-sound, fits-sound}
 use Rattle.output.specs.Output.{over}
 use Rattle.market.specs.Lent.{alone, Answers}
@@ -111,9 +110,6 @@ module _ (w : List ℕ) (c : ℕ) {i n : ℕ} {l : Limits} (e : i ≡ line_of c 
         (safe-as w (subscribe c limit t (market_of w)) (subscribe-safe c limit t (market_of w) s.market))
 
 -- ---- reset
-
-pub clear-ready : (w : List ℕ) → Sound w → Sized w × ((head_of w).base + (head_of w).count < 2 ^ 64)
-clear-ready w s = (s.sized, (counts s).numbers)
 
 pub clear_kept : {w v : List ℕ} → Sound w → Moved w v (with_log (clear (market_of w).log) (market_of w)) → Sound v
 clear_kept {w} s d = moved-sound s d (clear-sound (market_of w) s.market)

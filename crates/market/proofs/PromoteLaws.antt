@@ -1,19 +1,18 @@
 -- What promote and drop answer.
+use Rattle.std.specs.Prelude.{Option, None, Some}
 use mathlib.Core.Path.{◌≡◌, refl, sym, ap, ◌∙◌, subst}
 use mathlib.Core.List.{List, []}
-use mathlib.Core.Option.{Option, none, some}
-use mathlib.Core.Bool.{Bool, true, false, not, ◌||◌, cond}
+use mathlib.Core.Bool.{Bool, true, false, not, cond}
 use Prim.Native.Nat.{ℕ, suc, ◌+◌, ◌-◌, ◌≤◌, ◌<◌}
 use native.Mathlib.Omega.{arith}
-use lib.Dec.{ltb, eqb}
+use lib.Dec.{eqb}
 use lib.ListN.{length, get_or, drop}
-use borrow.Author.Tests.{eq-eqb, ne_eqb, le-ltb}
 use Rattle.rules.specs.Lists.{keep, maybe}
 use Rattle.rules.specs.Log.{clear}
 use Rattle.rules.specs.Lines as Rules
 use Rattle.rules.specs.Lines.{Connection, Market, is_failed, items_of, someone, conn_at, with_log, with_lines}
 use Rattle.rules.specs.Entering.{Work, begin, take_over, sweep}
-use Rattle.rules.specs.Calls.{did, just, kept, gone, rebuild, claim, below, better, source, promote, drop_conn}
+use Rattle.rules.specs.Calls.{did, just, kept, gone, rebuild, claim, better, source, promote, drop_conn}
 use Rattle.rules.specs.Refusals.{in_line}
 use Rattle.rules.specs.Answers.{Said, word}
 use Rattle.rules.proofs.Tests.{none≢some}
@@ -28,32 +27,19 @@ use Rattle.store.specs.ConnMoves.{NotFailed}
 use Rattle.store.proofs.MarketLaws.{market-limits, lines-count}
 use Rattle.store.proofs.ConnLaws.{lines_from, lines_end}
 use Rattle.market.specs.declared.Source.{Source}
-use Rattle.market.specs.declared.Source.TheVariants as Source
 use Rattle.market.specs.Claims.{source_of}
 use Rattle.moves.specs.Does.{Does, Ready}
 use Rattle.market.specs.Lent.{lent, Answers, Roomy}
 use Rattle.moves.proofs.DoesLaws.{goes_then, moved_none, ready-then}
 use Rattle.market.proofs.AnswerLaws.{ready-begin, roomy-then, goes-just, safe-as, answered, justly, answers-from}
 
--- ---- claims
-
-pub below-same : (a x b y : ℕ) → a ≡ b → ltb x y ≡ below (a, x) (b, y)
-below-same a x b y e = rw (le-ltb a b (omega arith), eq-eqb a b e) refl
-
-pub below_other : (a x b y : ℕ) → (a ≡ b → ⊥) → ltb a b ≡ below (a, x) (b, y)
-below_other a x b y e = rw (ne_eqb a b e) (go (ltb a b))
-  where
-    go : (t : Bool) → t ≡ (t || false)
-    go true = refl
-    go false = refl
-
 -- ---- the source, from the last line back
 
-pub source-end : (w : List ℕ) (n : ℕ) → n ≡ line_count w → none ≡ source n (drop n (market_of w).lines)
+pub source-end : (w : List ℕ) (n : ℕ) → n ≡ line_count w → None ≡ source n (drop n (market_of w).lines)
 unfolding source
 source-end w n e = rw (lines_end w n (omega arith)) refl
 
-pub source-step : (w : List ℕ) (i : ℕ) → 0 < i → i ≤ line_count w → (c : Claim) (b r : Source) → claim_of c ≡ claim (conn_at (i - 1) (market_of w)).line
+pub source-step : (w : List ℕ) (i : ℕ) → 0 < i → i ≤ line_count w → (c : Option Claim) (b r : Option Source) → claim_of c ≡ claim (conn_at (i - 1) (market_of w)).line
     → source_of b ≡ source i (drop i (market_of w).lines) → source_of r ≡ better (i - 1) (claim_of c) (source_of b)
     → source_of r ≡ source (i - 1) (drop (i - 1) (market_of w).lines)
 unfolding source
@@ -70,7 +56,7 @@ promote-kept w v t r e =
     justly kept r.sound refl (moved_none r.sound.sized) (rw e refl) (safe-as w (promote t (market_of w)) (promote-safe t (market_of w) r.sound.market))
 
 -- a claim is of a line that has not failed
-claimed : (l : Rules.Line) (x : ℕ × ℕ) → claim l ≡ some x → is_failed l ≡ false
+claimed : (l : Rules.Line) (x : ℕ × ℕ) → claim l ≡ Some x → is_failed l ≡ false
 claimed (Rules.Waiting is since) x e = refl
 claimed (Rules.Pending is at since) x e = refl
 claimed (Rules.InLine n a b) x e = absurd (none≢some e)
@@ -84,11 +70,11 @@ module _ {w v w₁ : List ℕ} (t : ℕ) (r : Roomy w v) (f : someone (market_of
   roomy₁ : Roomy w₁ v
   roomy₁ = roomy-then r d (market-limits w) (clear-sound (market_of w) r.sound.market)
 
-  pub promote-gone : length w₁ ≡ length w → source 0 (market_of w).lines ≡ none → Answers (promote t (market_of w)) (lent w v) (word gone 0 0) (lent w₁ v)
+  pub promote-gone : length w₁ ≡ length w → source 0 (market_of w).lines ≡ None → Answers (promote t (market_of w)) (lent w v) (word gone 0 0) (lent w₁ v)
   unfolding promote
   promote-gone l e = justly gone r.sound l d (rw (f, e) refl) (safe-as w (promote t (market_of w)) (promote-safe t (market_of w) r.sound.market))
 
-  module _ (i : ℕ) (x : ℕ × ℕ) (e : source 0 (market_of w).lines ≡ some (i, x)) where
+  module _ (i : ℕ) (x : ℕ × ℕ) (e : source 0 (market_of w).lines ≡ Some (i, x)) where
     lines₁ : (market_of w₁).lines ≡ (market_of w).lines
     lines₁ = ap (λ (m : Market). m.lines) d.market
 
@@ -99,7 +85,7 @@ module _ {w v w₁ : List ℕ} (t : ℕ) (r : Roomy w v) (f : someone (market_of
     found =
         let q = source-law (market_of w).lines 0 (i, x) e in
         let k : q.0 ≡ i = (let z = q.1 in omega arith) in
-        (subst (λ (j : ℕ). j < length (market_of w).lines) k q.2, claimed (conn_at i (market_of w)).line x (subst (λ (j : ℕ). claim (conn_at j (market_of w)).line ≡ some x) k q.3))
+        (subst (λ (j : ℕ). j < length (market_of w).lines) k q.2, claimed (conn_at i (market_of w)).line x (subst (λ (j : ℕ). claim (conn_at j (market_of w)).line ≡ Some x) k q.3))
 
     pub take-over-ready : Ready w₁ v 0 × ((i < line_count w₁) × NotFailed w₁ i)
     take-over-ready =
@@ -152,8 +138,8 @@ promote-did t m = go (someone m.lines) (source 0 m.lines)
   where
     go : (b : Bool) (o : Option (ℕ × (ℕ × ℕ))) → (a : _) × ((k : Work) × (cond b (just kept m) (maybe (just gone (with_log (clear m.log) m)) (λ x. did rebuild [] (sweep t (take_over x.0 (items_of (conn_at x.0 m).line) t (begin (with_log (clear m.log) m))))) o) ≡ did a [] k))
     go true o = (kept, (begin m, refl))
-    go false none = (gone, (begin (with_log (clear m.log) m), refl))
-    go false (some x) = (rebuild, (sweep t (take_over x.0 (items_of (conn_at x.0 m).line) t (begin (with_log (clear m.log) m))), refl))
+    go false None = (gone, (begin (with_log (clear m.log) m), refl))
+    go false (Some x) = (rebuild, (sweep t (take_over x.0 (items_of (conn_at x.0 m).line) t (begin (with_log (clear m.log) m))), refl))
 
 pub drop-done : {w v w₁ w₂ v₂ : List ℕ} (c t : ℕ) (a : Said) → length w₁ ≡ length w → in_line c (market_of w) ≡ true
     → Moved w w₁ (with_lines (keep (λ x. not (eqb x.conn c)) (market_of w).lines) (market_of w)) → Answers (promote t (market_of w₁)) (lent w₁ v) a (lent w₂ v₂)

@@ -1,9 +1,8 @@
 -- A source of the code, as the rules write it.
-use Rattle.std.proofs.Math.Option.{Option, none, some}
-use Rattle.std.specs.Prelude.{ℕ}
+use Rattle.std.specs.Prelude.{Option, None, Some, ℕ}
 use Rattle.market.specs.declared.Source.{Source}
-use Rattle.market.specs.declared.Source.TheVariants as Source
+use Rattle.lines.specs.Line.{claim_words}
 
-abbrev pub source_of : Source → Option (ℕ × (ℕ × ℕ))
-source_of Source.Nobody = none
-source_of (Source.Best line pending time) = some (line, (pending, time))
+abbrev pub source_of : Option Source → Option (ℕ × (ℕ × ℕ))
+source_of None = None
+source_of (Some s) = Some (s.line, claim_words s.claim)

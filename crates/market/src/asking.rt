@@ -10,12 +10,8 @@ pub fn in_line(s: &[u64], conn: u64) -> bool
     requires { Sound s.now }
     ensures { result ≡ Rules.in_line conn (market_of s.now) }
 {
-    let lines = store::conns::count(s);
     let i = store::conns::find(s, conn);
-    if i >= lines {
-        return false;
-    }
-    store::conns::line_at(s, i).in_line()
+    i < store::conns::count(s) && store::conns::line_at(s, i).in_line()
 }
 
 // Whether some line is in line, or able to start the book.
@@ -23,13 +19,10 @@ pub fn servable(s: &[u64]) -> bool
     requires { Sound s.now }
     ensures { result ≡ Rules.servable (market_of s.now) }
 {
-    let n = store::conns::count(s);
-    let mut i = 0;
-    while i < n {
+    for i in 0..store::conns::count(s) {
         if store::conns::line_at(s, i).servable() {
             return true;
         }
-        i += 1;
     }
     false
 }
@@ -40,12 +33,8 @@ pub fn view(s: &[u64], conn: u64, list: &mut [u64]) -> usize
     ensures { (result ≡ length (Rules.messages conn (market_of s.now)))
         × (list.new ≡ over (Rules.messages conn (market_of s.now)) list.old) }
 {
-    let lines = store::conns::count(s);
     let i = store::conns::find(s, conn);
-    if i >= lines {
-        return 0;
-    }
-    if store::conns::line_at(s, i).pending() {
+    if i < store::conns::count(s) && store::conns::line_at(s, i).pending() {
         let n = store::conns::held(s, i);
         place::put_messages(store::conns::items(s, i), n, list);
         return n;

@@ -5,10 +5,10 @@ ghost use Rattle.rules.specs.Answers.{of_changed};
 ghost use Rattle.store.specs.Store.{market_of, Sound};
 ghost use Rattle.market.specs.Lent.{alone, Answers};
 
-use rules::Changed;
+use rules::Refusal;
 
 // The connection's delivered counts go, and its line becomes Waiting, empty, since t, with this limit.
-pub fn subscribe(s: &mut [u64], conn: u64, limit: u64, t: u64) -> Changed
+pub fn subscribe(s: &mut [u64], conn: u64, limit: u64, t: u64) -> Result<(), Refusal>
     requires { Sound s.old }
     ensures { Answers (Rules.subscribe conn limit t (market_of s.old))
         (alone s.old) (of_changed result) (alone s.new) }
@@ -16,25 +16,24 @@ pub fn subscribe(s: &mut [u64], conn: u64, limit: u64, t: u64) -> Changed
     let limits = store::entries::limits(s);
     let fits = (1 <= limit) & (limit <= limits.H);
     if !fits {
-        return Changed::Refused(18);
+        return Err(Refusal::LineLimit);
     }
     let lines = store::conns::count(s);
     let i = store::conns::find(s, conn);
     let full = (lines <= i) & (limits.L <= lines as u64);
     if full {
-        return Changed::Refused(4);
+        return Err(Refusal::Lines);
     }
     store::tables::remove_counts(s, conn);
     line_list::subscribe(s, conn, limit, t);
-    Changed::Done
+    Ok(())
 }
 
 // Empties the log; every line but a Failed one becomes Pending, empty, since t.
-pub fn reset(s: &mut [u64], t: u64) -> Changed
+pub fn reset(s: &mut [u64], t: u64)
     requires { Sound s.old }
-    ensures { Answers (just done (Rules.reset t (market_of s.old))) (alone s.old) (of_changed result) (alone s.new) }
+    ensures { Answers (just done (Rules.reset t (market_of s.old))) (alone s.old) (of_changed (Ok result)) (alone s.new) }
 {
     store::entries::clear_log(s);
     line_list::reset(s, t);
-    Changed::Done
 }

@@ -5,13 +5,11 @@ pub mod asking;
 pub mod changes;
 pub mod promoting;
 
-// The line with the best claim so far.
-#[derive(Clone, Copy)]
-pub enum Source {
-    Nobody,
-    Best {
-        line: usize,
-        pending: u64,
-        time: u64,
-    },
+use lines::Claim;
+
+// A line that may be the source of a new book, and its claim.
+#[derive(Clone, Copy, Debug, PartialEq, Eq)]
+pub struct Source {
+    pub line: usize,
+    pub claim: Claim,
 }

@@ -7,11 +7,12 @@ use native.Mathlib.Omega.{arith}
 use lib.Dec.{eqb}
 use lib.ListN.{length}
 use Rattle.rules.specs.declared.Item.TheVariants as Item
+use Rattle.rules.specs.declared.refusal.Refusal.{Refusal}
 use Rattle.rules.specs.Quantities.{Key, area_items}
 use Rattle.rules.specs.Lines.{Market, conn_at, items_of, is_pending, is_in_line, set_line}
 use Rattle.rules.specs.Entering.{begin, sweep}
 use Rattle.rules.specs.Calls.{Outcome, just, apply, duplicate, held}
-use Rattle.rules.specs.Answers.{Said, number, word}
+use Rattle.rules.specs.Answers.{Said, number, word, number_of}
 use Rattle.rules.proofs.Tests.{eqb_same}
 use Rattle.rules.proofs.SoundMoves.{try_line_up-sound}
 use Rattle.rules.proofs.SoundCalls.{room_for, Safe, begin-sound, book-safe}
@@ -59,8 +60,10 @@ module _ {w v : List ℕ} {i : ℕ} {line : Line} (key : Key) (msg t : ℕ) (r :
   book-held : event_at i key msg t (market_of w) ≡ unless_full (market_of w) (held_event i t (market_of w) (step_at i key msg (market_of w)).0)
   book-held = book-by key msg t r.sound p.here (word held 0 0) p.answer
 
-  pub held-full : {n : ℕ} → n ≡ fullness (market_of w) → (n ≡ 0 → ⊥) → Answers (event_at i key msg t (market_of w)) (lent w v) (number n) (lent w v)
-  held-full {n} b z = refuses n (lent w v) (book-held ∙ if-full (market_of w) (held_event i t (market_of w) (step_at i key msg (market_of w)).0) b z)
+  pub held-full : (x : Refusal) → number_of x ≡ fullness (market_of w)
+      → Answers (event_at i key msg t (market_of w)) (lent w v) (number (number_of x)) (lent w v)
+  held-full x b =
+      refuses (number_of x) (lent w v) (book-held ∙ if-full x (market_of w) (held_event i t (market_of w) (step_at i key msg (market_of w)).0) b)
 
   pub held-room : ItemRoom w i (Item.Event key msg)
   held-room = hold-room r p.here tt holds

@@ -5,13 +5,14 @@ use Prim.Native.Nat.{ℕ, ◌+◌, ◌≤◌, ◌<◌}
 use native.Mathlib.Omega.{arith}
 use lib.ListN.{length}
 use Rattle.rules.specs.declared.Limits.{Limits}
+use Rattle.rules.specs.declared.refusal.Refusal.{Refusal}
 use Rattle.rules.specs.Quantities.{Key}
 use Rattle.rules.specs.Log.{end}
 use Rattle.rules.specs.Lines as Rules
 use Rattle.rules.specs.Lines.{Market, conn_at, items_of, item_count, set_line}
 use Rattle.rules.specs.Entering.{Work, begin, on_market, push_out, sweep}
 use Rattle.rules.specs.Calls.{did, apply}
-use Rattle.rules.specs.Answers.{Said, number, word}
+use Rattle.rules.specs.Answers.{Said, number, word, number_of}
 use Rattle.rules.specs.Sound.{LineSound}
 use Rattle.rules.proofs.Tests.{leb-false}
 use Rattle.rules.proofs.SoundMoves.{SoundW, push_out-pushed}
@@ -53,8 +54,9 @@ module _ {w v : List ℕ} {i : ℕ} {line : Line} (key : Key) (msg t : ℕ) (r :
   unfolding new push
   book-new = book-by key msg t r.sound p.here (word apply 1 0) p.answer
 
-  pub new-full : {n : ℕ} → n ≡ fullness (market_of w) → (n ≡ 0 → ⊥) → Answers (event_at i key msg t (market_of w)) (lent w v) (number n) (lent w v)
-  new-full {n} b z = refuses n (lent w v) (book-new ∙ if-full (market_of w) (did apply [] (sweep t push)) b z)
+  pub new-full : (x : Refusal) → number_of x ≡ fullness (market_of w)
+      → Answers (event_at i key msg t (market_of w)) (lent w v) (number (number_of x)) (lent w v)
+  new-full x b = refuses (number_of x) (lent w v) (book-new ∙ if-full x (market_of w) (did apply [] (sweep t push)) b)
 
   module _ (b : fullness (market_of w) ≡ 0) where
     pub new-room : PushRoom w v 0

@@ -12,7 +12,7 @@ ghost use Rattle.market.specs.Lent.{lent, Answers, Roomy};
 ghost use Rattle.market_events.specs.Events.{step_at, event_at, Becomes, line_up_answers};
 
 use lines::{Line, Stepped};
-use rules::{EventKey, Item, Step};
+use rules::{EventKey, Item, Refusal, Step};
 
 // What the i-th line makes of a book event of this key.
 fn step_of(s: &[u64], i: usize, key: EventKey) -> Stepped
@@ -29,16 +29,16 @@ fn step_of(s: &[u64], i: usize, key: EventKey) -> Stepped
 fn pending_event(s: &mut [u64], out: &mut [u64], i: usize, t: u64) -> Step
     requires { (Roomy s.old out.old) × (i < line_count s.old) }
     ensures { Answers (line_up_answers i t (market_of s.old))
-        (lent s.old out.old) (of_step result) (lent s.new out.new) }
+        (lent s.old out.old) (of_step (Ok result)) (lent s.new out.new) }
 {
     let n = market_snapshots::released(s, out, i, t);
-    if n == 0 {
-        if store::conns::line_at(s, i).in_line() {
-            return Step::Duplicate;
-        }
-        return Step::Held;
+    if n != 0 {
+        return Step::Apply(n);
     }
-    Step::Apply(n)
+    if store::conns::line_at(s, i).in_line() {
+        return Step::Duplicate;
+    }
+    Step::Held
 }
 
 // A book event that the i-th line holds, which becomes `line`; a pending one tries to line up.
@@ -50,20 +50,17 @@ fn held_event(
     key: EventKey,
     message: u64,
     t: u64,
-) -> Step
+) -> Result<Step, Refusal>
     requires { (Roomy s.old out.old) × (Becomes s.old i key message line (word held 0 0)) }
     ensures { Answers (event_at i key message t (market_of s.old))
         (lent s.old out.old) (of_step result) (lent s.new out.new) }
 {
-    let full = market_snapshots::full(s);
-    if full != 0 {
-        return Step::Refused(full);
-    }
+    market_snapshots::room(s)?;
     store::conns::hold_item(s, i, Item::Event(key, message));
     if line.pending() {
-        return pending_event(s, out, i, t);
+        return Ok(pending_event(s, out, i, t));
     }
-    Step::Held
+    Ok(Step::Held)
 }
 
 // A book event that the i-th line, in line, brings first: pushed and put out, and the pending lines are tried.
@@ -75,20 +72,16 @@ fn new_event(
     key: EventKey,
     message: u64,
     t: u64,
-) -> Step
+) -> Result<Step, Refusal>
     requires { (Roomy s.old out.old) × (Becomes s.old i key message line (word apply 1 0)) }
     ensures { Answers (event_at i key message t (market_of s.old))
         (lent s.old out.old) (of_step result) (lent s.new out.new) }
 {
-    let full = market_snapshots::full(s);
-    if full != 0 {
-        return Step::Refused(full);
-    }
+    market_snapshots::room(s)?;
     let conn = store::conns::conn_at(s, i);
     let n = moves::entering::push_out(s, out, 0, conn, t, key, message);
     store::conns::set_line(s, i, line);
-    let m = moves::lining_up::align_pending(s, out, n, t);
-    Step::Apply(m)
+    Ok(Step::Apply(moves::lining_up::align_pending(s, out, n, t)))
 }
 
 // A book event by a connection.
@@ -99,34 +92,33 @@ pub fn book_event(
     key: EventKey,
     message: u64,
     t: u64,
-) -> Step
+) -> Result<Step, Refusal>
     requires { Roomy s.old out.old }
     ensures { Answers (Rules.book_event (line_of conn (market_of s.old)) key message t (market_of s.old)
         (line_for conn (market_of s.old)))
         (lent s.old out.old) (of_step result) (lent s.new out.new) }
 {
-    let lines = store::conns::count(s);
     let i = store::conns::find(s, conn);
-    if i >= lines {
-        return Step::Ignored;
+    if store::conns::count(s) <= i {
+        return Ok(Step::Ignored);
     }
     let stepped = step_of(s, i, key);
     let line = stepped.line;
-    let step = stepped.step;
+    let step = match stepped.step {
+        Ok(step) => step,
+        // the line has no number left; a full log comes before that
+        Err(refusal) => {
+            market_snapshots::room(s)?;
+            return Err(refusal);
+        }
+    };
     match step {
         Step::Apply(_) => new_event(s, out, i, line, key, message, t),
         Step::Held => held_event(s, out, i, line, key, message, t),
-        Step::Duplicate => {
+        Step::Duplicate | Step::Failed => {
             store::conns::set_line(s, i, line);
-            step
+            Ok(step)
         }
-        Step::Failed => {
-            store::conns::set_line(s, i, line);
-            step
-        }
-        Step::Ignored => step,
-        Step::Diverged => step,
-        // the line has no number left: the numbers are full, and 5 comes before 9
-        Step::Refused(_) => Step::Refused(market_snapshots::full(s)),
+        Step::Ignored | Step::Diverged => Ok(step),
     }
 }

@@ -14,19 +14,18 @@ ghost use Rattle.market_prints.specs.Put.{put_print};
 
 use lines::Line;
 use rows::Place;
-use rules::{Applied, EventKey, Kind, Step};
+use rules::{Applied, EventKey, Kind, Refusal, Step};
 
 // A print is held once for each line; one too many and the line fails.
 fn hold(s: &mut [u64], i: usize, key: EventKey, message: u64) -> Step
     requires { (Sound s.old) × ((i < line_count s.old) × (NotFailed s.old i)) }
     ensures { (v : List ℕ) → Answers (Rules.hold_print i key message (market_of s.old))
-        (lent s.old v) (of_step result) (lent s.new v) }
+        (lent s.old v) (of_step (Ok result)) (lent s.new v) }
 {
     if store::conns::holds_print(s, i, key) {
         return Step::Held;
     }
-    let limit = store::conns::limit_at(s, i);
-    if limit <= store::conns::prints_held(s, i) {
+    if store::conns::limit_at(s, i) <= store::conns::prints_held(s, i) {
         store::conns::drop_prints(s, i);
         store::conns::set_line(s, i, Line::Failed);
         return Step::Failed;
@@ -49,7 +48,7 @@ fn put_print(
     requires roomy { (Roomy s.old out.old) × ((applied < delivered) × (delivered ≤ max_count)) }
     requires key_found { KeyFound s.old key place }
     ensures { Answers (put_print conn key message delivered applied (market_of s.old))
-        (lent s.old out.old) (of_step result) (lent s.new out.new) }
+        (lent s.old out.old) (of_step (Ok result)) (lent s.new out.new) }
 {
     store::tables::apply(s, key, delivered, place);
     let record = Applied {
@@ -60,8 +59,7 @@ fn put_print(
         message,
         times: delivered - applied,
     };
-    let n = output::put_record(out, 0, record);
-    Step::Apply(n)
+    Step::Apply(output::put_record(out, 0, record))
 }
 
 // A print that is counted: the connection has delivered it so often, and so often it was applied.
@@ -80,7 +78,7 @@ fn counted(
     requires key_found { KeyFound s.old key place }
     ensures { Answers (Rules.print_counted i conn key message delivered applied (market_of s.old)
         (conn_at i (market_of s.old)).line)
-        (lent s.old out.old) (of_step result) (lent s.new out.new) }
+        (lent s.old out.old) (of_step (Ok result)) (lent s.new out.new) }
 {
     if delivered <= applied {
         return Step::Duplicate;
@@ -100,38 +98,40 @@ fn deliver(
     key: EventKey,
     message: u64,
     t: u64,
-) -> Step
+) -> Result<Step, Refusal>
     requires { (Roomy s.old out.old) × ((i < line_count s.old) × ((NotFailed s.old i) × (i ≡ line_of conn (market_of s.old)))) }
     ensures { Answers (Rules.print conn key message t (market_of s.old))
         (lent s.old out.old) (of_step result) (lent s.new out.new) }
 {
     let found = store::tables::find(s, key, conn);
     if store::tables::no_row(s, key, conn, found) {
-        return Step::Refused(7);
+        return Err(Refusal::NoRow);
     }
     let delivered = store::tables::delivered(s, key, conn, found);
     if prints::MAX_COUNT <= delivered {
-        return Step::Refused(8);
+        return Err(Refusal::CountFull);
     }
-    let old = found.key;
-    let applied = store::tables::applied(s, key, old);
+    let applied = store::tables::applied(s, key, found.key);
     let place = store::tables::deliver(s, key, conn, t, found);
-    counted(s, out, i, conn, key, message, delivered + 1, applied, place)
+    Ok(counted(s, out, i, conn, key, message, delivered + 1, applied, place))
 }
 
 // A print by a connection.
-pub fn other(s: &mut [u64], out: &mut [u64], conn: u64, key: EventKey, message: u64, t: u64) -> Step
+pub fn other(
+    s: &mut [u64],
+    out: &mut [u64],
+    conn: u64,
+    key: EventKey,
+    message: u64,
+    t: u64,
+) -> Result<Step, Refusal>
     requires { Roomy s.old out.old }
     ensures { Answers (Rules.print conn key message t (market_of s.old))
         (lent s.old out.old) (of_step result) (lent s.new out.new) }
 {
-    let lines = store::conns::count(s);
     let i = store::conns::find(s, conn);
-    if i >= lines {
-        return Step::Ignored;
-    }
-    if store::conns::line_at(s, i).failed() {
-        return Step::Ignored;
+    if store::conns::count(s) <= i || store::conns::line_at(s, i).failed() {
+        return Ok(Step::Ignored);
     }
     deliver(s, out, i, conn, key, message, t)
 }

@@ -1,4 +1,5 @@
 -- Laws of a snapshot by its line's answer: held, due, or neither; and of a connection's snapshot.
+use Rattle.std.specs.Prelude.{Result, Ok, Err}
 use mathlib.Core.Path.{◌≡◌, refl, sym, ap, ◌∙◌, subst}
 use mathlib.Core.List.{List, []}
 use mathlib.Core.Bool.{Bool, true, false, cond}
@@ -8,13 +9,13 @@ use lib.ListN.{length}
 use lib.Seq.{get_or-set_same}
 use Rattle.rules.specs.declared.Item.TheVariants as Item
 use Rattle.rules.specs.declared.Step.{Step}
-use Rattle.rules.specs.declared.Step.TheVariants as Step
+use Rattle.rules.specs.declared.refusal.Refusal.{Refusal}
 use Rattle.rules.specs.Log.{end}
 use Rattle.rules.specs.Lines as Rules
 use Rattle.rules.specs.Lines.{Connection, Market, conn_at, nobody, items_of, is_failed, someone, set_line, line_for}
 use Rattle.rules.specs.Entering.{Work, begin, take_over}
 use Rattle.rules.specs.Calls.{Outcome, did, just, apply, duplicate, held, ignored, diverged, failed, released, snapshot}
-use Rattle.rules.specs.Answers.{Said, number, word, of_step}
+use Rattle.rules.specs.Answers.{Said, number, word, number_of, of_step}
 use Rattle.rules.specs.Sound.{LineSound}
 use Rattle.rules.proofs.SoundCalls.{snapshot-safe}
 use Rattle.lines.specs.declared.Stepped.{Stepped}
@@ -68,8 +69,10 @@ module _ {w v : List ℕ} {i : ℕ} (token msg t : ℕ) (r : Roomy w v) (h : i <
       snapshot-steps i token msg t (market_of w) (conn_at i (market_of w)).line
       ∙ by_answer (after_snapshot i msg t (market_of w)) (step_at i token msg (market_of w)) (word held 0 0) e
 
-  pub held-full : {n : ℕ} → n ≡ fullness (market_of w) → (n ≡ 0 → ⊥) → Answers (snapshot_at i token msg t (market_of w)) (lent w v) (number n) (lent w v)
-  held-full {n} b z = refuses n (lent w v) (snap-held ∙ if-full (market_of w) (held_snapshot i t (market_of w) (step_at i token msg (market_of w)).0) b z)
+  pub held-full : (x : Refusal) → number_of x ≡ fullness (market_of w)
+      → Answers (snapshot_at i token msg t (market_of w)) (lent w v) (number (number_of x)) (lent w v)
+  held-full x b =
+      refuses (number_of x) (lent w v) (snap-held ∙ if-full x (market_of w) (held_snapshot i t (market_of w) (step_at i token msg (market_of w)).0) b)
 
   pub held-room : ItemRoom w i (Item.Snapshot token msg)
   held-room = hold-room r h k (step-holds r.sound h token msg e)
@@ -115,24 +118,24 @@ module _ {w v : List ℕ} {i : ℕ} (token msg t : ℕ) (r : Roomy w v) (h : i <
 -- ---- any answer
 
 -- one that leaves the market as it is
-abbrev pub Other : Step → Type 0
-Other (Step.Apply n) = ⊥
-Other Step.Duplicate = Unit {0}
-Other Step.Held = ⊥
-Other Step.Ignored = Unit {0}
-Other Step.Diverged = Unit {0}
-Other Step.Failed = Unit {0}
-Other (Step.Refused n) = Unit {0}
+abbrev pub Other : Result Step Refusal → Type 0
+Other (Ok (Step.Apply n)) = ⊥
+Other (Ok Step.Duplicate) = Unit {0}
+Other (Ok Step.Held) = ⊥
+Other (Ok Step.Ignored) = Unit {0}
+Other (Ok Step.Diverged) = Unit {0}
+Other (Ok Step.Failed) = Unit {0}
+Other (Err x) = Unit {0}
 
-after-other : {w v : List ℕ} (i msg t : ℕ) (l : Rules.Line) (step : Step) → Other step → Sound w
+after-other : {w v : List ℕ} (i msg t : ℕ) (l : Rules.Line) (step : Result Step Refusal) → Other step → Sound w
     → Answers (after_snapshot i msg t (market_of w) (l, of_step step)) (lent w v) (of_step step) (lent w v)
-after-other i msg t l (Step.Apply n) x s = absurd x
-after-other i msg t l Step.Duplicate x s = stays duplicate s refl
-after-other i msg t l Step.Held x s = absurd x
-after-other i msg t l Step.Ignored x s = stays ignored s refl
-after-other i msg t l Step.Diverged x s = stays diverged s refl
-after-other i msg t l Step.Failed x s = stays failed s refl
-after-other {w} {v} i msg t l (Step.Refused n) x s = refuses n (lent w v) refl
+after-other i msg t l (Ok (Step.Apply n)) x s = absurd x
+after-other i msg t l (Ok Step.Duplicate) x s = stays duplicate s refl
+after-other i msg t l (Ok Step.Held) x s = absurd x
+after-other i msg t l (Ok Step.Ignored) x s = stays ignored s refl
+after-other i msg t l (Ok Step.Diverged) x s = stays diverged s refl
+after-other i msg t l (Ok Step.Failed) x s = stays failed s refl
+after-other {w} {v} i msg t l (Err n) x s = refuses (number_of n) (lent w v) refl
 
 module _ {w : List ℕ} {i : ℕ} (token msg t : ℕ) (s : Sound w) (h : i < line_count w) (stepped : Stepped)
     (e : Steps stepped (step_at i token msg (market_of w))) where
@@ -141,16 +144,14 @@ module _ {w : List ℕ} {i : ℕ} (token msg t : ℕ) (s : Sound w) (h : i < lin
       snapshot-steps i token msg t (market_of w) (conn_at i (market_of w)).line
       ∙ by_answer (after_snapshot i msg t (market_of w)) (step_at i token msg (market_of w)) (of_step stepped.step) (sym e.answer)
 
-  pub snap-other : {v : List ℕ} (step : Step) → stepped.step ≡ step → Other step
-      → Answers (snapshot_at i token msg t (market_of w)) (lent w v) (of_step stepped.step) (lent w v)
+  pub snap-other : {v : List ℕ} (step : Result Step Refusal) → stepped.step ≡ step → Other step
+      → Answers (snapshot_at i token msg t (market_of w)) (lent w v) (of_step step) (lent w v)
   snap-other {v} step a x =
-      subst (λ (o : Outcome). Answers o (lent w v) (of_step stepped.step) (lent w v)) (sym snap-said)
-      (after-other i msg t (step_at i token msg (market_of w)).0 stepped.step (subst Other (sym a) x) s)
+      subst (λ (o : Outcome). Answers o (lent w v) (of_step step) (lent w v))
+      (sym (snap-said ∙ ap (λ (u : Result Step Refusal). after_snapshot i msg t (market_of w) ((step_at i token msg (market_of w)).0, of_step u)) a))
+      (after-other i msg t (step_at i token msg (market_of w)).0 step x s)
 
-  pub snap-holds : stepped.step ≡ Step.Held → (step_at i token msg (market_of w)).1 ≡ word held 0 0
-  snap-holds a = sym e.answer ∙ ap of_step a
-
-  module _ {n : ℕ} (a : stepped.step ≡ Step.Apply n) where
+  module _ {n : ℕ} (a : stepped.step ≡ Ok (Step.Apply n)) where
     snap-applied : LineSound (market_of w).limits (end (market_of w).log) (step_at i token msg (market_of w)).0
         × (items_of (step_at i token msg (market_of w)).0 ≡ [])
     snap-applied =
@@ -169,7 +170,7 @@ module _ {w : List ℕ} {i : ℕ} (token msg t : ℕ) (s : Sound w) (h : i < lin
     snap-due {v} {x} {y} z =
         subst (λ (o : Outcome). Answers o (lent w v) x y)
         (ap (λ (l : Rules.Line). after_snapshot i msg t (market_of w) (l, word apply 1 0)) snap-line
-        ∙ sym (snap-said ∙ ap (λ (u : Step). after_snapshot i msg t (market_of w) ((step_at i token msg (market_of w)).0, of_step u)) a)) z
+        ∙ sym (snap-said ∙ ap (λ (u : Result Step Refusal). after_snapshot i msg t (market_of w) ((step_at i token msg (market_of w)).0, of_step u)) a)) z
 
 -- ---- of a connection
 

@@ -7,7 +7,6 @@ use native.Mathlib.Omega.{arith}
 use lib.ListN.{length, get_or, set, length-append}
 use lib.Seq.{get_or-set_same, set-set}
 use Rattle.rules.specs.declared.Item.{Item}
-use Rattle.rules.specs.declared.Item.TheVariants as Item
 use Rattle.rules.specs.declared.Limits.{Limits}
 use Rattle.rules.specs.Lists.{any}
 use Rattle.rules.specs.Quantities.{area_items, max_number, snapshot_out}
@@ -28,7 +27,7 @@ use Rattle.lines.specs.declared.Line.{Line}
 use Rattle.lines.specs.Line.{line_of, held_of, holding, complete, holds_both}
 use Rattle.lines.specs.Area.{head_line}
 use Rattle.lines.proofs.HeldLaws.{Holds}
-use Rattle.store.specs.Store.{limits_of, line_count, line_words_at, market_of, Sound}
+use Rattle.store.specs.Store.{limits_of, line_count, line_words_at, market_of}
 use Rattle.store.specs.Moves.{Moved}
 use Rattle.store.specs.ConnMoves.{items_at, ItemRoom}
 use Rattle.store.proofs.MarketLaws.{market-limits}

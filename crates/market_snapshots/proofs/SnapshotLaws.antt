@@ -10,6 +10,7 @@ use lib.ListN.{length, get_or-eq_default}
 use lib.Seq.{get_or-set_same}
 use Rattle.rules.specs.declared.Applied.{Applied}
 use Rattle.rules.specs.declared.Limits.{Limits}
+use Rattle.rules.specs.declared.refusal.Refusal.{Refusal}
 use Rattle.rules.specs.Lists.{nil}
 use Rattle.rules.specs.Quantities.{max_number}
 use Rattle.rules.specs.Log.{end}
@@ -17,7 +18,7 @@ use Rattle.rules.specs.Lines as Rules
 use Rattle.rules.specs.Lines.{Connection, Market, conn_at, nobody, items_of, item_count, set_line}
 use Rattle.rules.specs.Entering.{Work, begin, try_line_up, sweep}
 use Rattle.rules.specs.Calls.{Answer, Outcome, refuse, refused, did, just, apply, released, full_log, full_numbers}
-use Rattle.rules.specs.Answers.{Said, word}
+use Rattle.rules.specs.Answers.{Said, word, number_of}
 use Rattle.rules.specs.Sound as Sounds
 use Rattle.rules.specs.Sound.{ConnSound, LineSound}
 use Rattle.rules.proofs.Tests.{eqb_same, eqb-other}
@@ -82,13 +83,28 @@ numbers-room m e = (flags (full_log m) (full_numbers m) e).1
 pub not_full : (m : Market) (o : Outcome) → fullness m ≡ 0 → unless_full m o ≡ o
 not_full m o e = rw (log-room m e, numbers-room m e)
 
-pub if-full : {n : ℕ} (m : Market) (o : Outcome) → n ≡ fullness m → (n ≡ 0 → ⊥) → unless_full m o ≡ refused n
-if-full {n} m o e z = go (full_log m) (full_numbers m) e
+-- no refusal has the number 0
+numbered : (x : Refusal) → number_of x ≡ 0 → ⊥
+numbered Refusal.Unsound e = omega arith
+numbered Refusal.Limits e = omega arith
+numbered Refusal.Room e = omega arith
+numbered Refusal.Lines e = omega arith
+numbered Refusal.LogFull e = omega arith
+numbered Refusal.AreaFull e = omega arith
+numbered Refusal.NoRow e = omega arith
+numbered Refusal.CountFull e = omega arith
+numbered Refusal.NoNumber e = omega arith
+numbered Refusal.Token e = omega arith
+numbered Refusal.ViewAnswers e = omega arith
+numbered Refusal.LineLimit e = omega arith
+
+pub if-full : (x : Refusal) (m : Market) (o : Outcome) → number_of x ≡ fullness m → unless_full m o ≡ refused (number_of x)
+if-full x m o e = go (full_log m) (full_numbers m) e
   where
-    go : (a b : Bool) → n ≡ cond a 5 (cond b 9 0) → refuse a 5 (refuse b 9 o) ≡ refused n
+    go : (a b : Bool) → number_of x ≡ cond a 5 (cond b 9 0) → refuse a 5 (refuse b 9 o) ≡ refused (number_of x)
     go true b e = ap refused (sym e)
     go false true e = ap refused (sym e)
-    go false false e = absurd (z e)
+    go false false e = absurd (numbered x e)
 
 -- ---- the i-th line
 

@@ -1,12 +1,13 @@
 -- What refuses an item more, what the i-th line makes of a snapshot, and what a try at line-up leaves.
-use Rattle.std.specs.Prelude.{◌≡◌, List, [], false, cond, ℕ, ◌<◌, eqb}
+use Rattle.std.specs.Prelude.{Result, Ok, Err, ◌≡◌, List, [], false, cond, ℕ, ◌<◌, eqb}
 use Rattle.rules.specs.Lists.{nil}
 use Rattle.rules.specs.Log.{end}
 use Rattle.rules.specs.Lines as Rules
 use Rattle.rules.specs.Lines.{Market, conn_at, items_of, set_line}
 use Rattle.rules.specs.Entering.{Work, begin, try_line_up, sweep}
 use Rattle.rules.specs.Calls.{Outcome, just, held, released, full_log, full_numbers, snapshot}
-use Rattle.rules.specs.Answers.{Said}
+use Rattle.rules.specs.declared.refusal.Refusal.{Refusal}
+use Rattle.rules.specs.Answers.{Said, number_of}
 use Rattle.rules.specs.Sound.{LineSound}
 use Rattle.lines.specs.declared.Line.{Line}
 use Rattle.lines.specs.Line.{line_of, complete, holds_both, snapshot_step}
@@ -17,6 +18,10 @@ use Rattle.moves.specs.Does.{Goes}
 -- the number that refuses an item more, or 0
 abbrev pub fullness : Market → ℕ
 fullness m = cond (full_log m) 5 (cond (full_numbers m) 9 0)
+
+abbrev pub fullness_of : Result Unit Refusal → ℕ
+fullness_of (Ok u) = 0
+fullness_of (Err r) = number_of r
 
 -- what the i-th line makes of a snapshot
 abbrev pub step_at : ℕ → ℕ → ℕ → Market → Rules.Line × Said

@@ -1,23 +1,19 @@
 -- Quiet line-up.
+use Rattle.std.specs.Prelude.{Option}
 use mathlib.Core.Path.{◌≡◌, refl, sym, ap, ◌∙◌}
 use mathlib.Core.List.{List, [], ◌∷◌}
-use mathlib.Core.Bool.{Bool, true, false, ◌&&◌, ◌||◌}
-use mathlib.Core.Option.{Option, none, some}
+use mathlib.Core.Bool.{Bool, true, false, ◌&&◌}
 use Prim.Native.Nat.{ℕ, ◌+◌, ◌<◌}
 use native.Mathlib.Omega.{arith}
 use lib.ListN.{length, set}
 use Rattle.rules.specs.declared.Item.{Item}
-use Rattle.rules.specs.declared.Stamp.{Stamp}
-use Rattle.rules.specs.Lists.{nil, is_some}
+use Rattle.rules.specs.Lists.{nil}
 use Rattle.rules.specs.Log.{end}
-use Rattle.rules.specs.Lines.{Line, Market, conn_at, events, items_of, nobody}
-use Rattle.rules.specs.Entering.{aligns, enter, try_line_up}
+use Rattle.rules.specs.Lines.{Line, Market, conn_at, events, nobody}
+use Rattle.rules.specs.Entering.{enter, try_line_up}
 use Rattle.rules.specs.Tick.{quiet_line_up, quiet_log}
 use Rattle.rules.specs.Sound.{holdings, holds}
 use Rattle.rules.proofs.SoundMoves.{sum-set}
-use Rattle.place.specs.declared.Place.{Place}
-use Rattle.place.specs.declared.Place.TheVariants as Place
-use Rattle.place.specs.Items.{place_of}
 use Rattle.event_log.specs.declared.Head.{Head}
 use Rattle.event_log.specs.Answers.{quiet_stamp}
 use Rattle.lines.specs.Line.{snapshot_quiet}
@@ -40,18 +36,6 @@ nil-some : {A : Type 0} (l : List A) → (length l ≡ 0 → ⊥) → nil l ≡ 
 nil-some [] e = absurd (e refl)
 nil-some (x ∷ l) e = refl
 
-pub place-some : (base j p : ℕ) (o : Option (ℕ × ℕ)) {r : Place} → r ≡ place_of base o → r ≡ Place.At j p → is_some o ≡ true
-place-some base j p none q e = absurd (let z : ◌≡◌ {A = ℕ} 0 1 = cc in omega arith)
-place-some base j p (some x) q e = refl
-
-pub place_none : (base : ℕ) (o : Option (ℕ × ℕ)) {r : Place} → r ≡ place_of base o → r ≡ Place.Nowhere → is_some o ≡ false
-place_none base none q e = refl
-place_none base (some x) q e = absurd (let z : ◌≡◌ {A = ℕ} 0 1 = cc in omega arith)
-
-or-true : (b : Bool) → (b || true) ≡ true
-or-true true = refl
-or-true false = refl
-
 -- its held prints have room
 pub enter-room : {u v : List ℕ} {n i : ℕ} → Ready u v n → i < line_count u → NotFailed u i → EnterRoom u v n i
 enter-room {u} {v} {n} {i} r h f =
@@ -70,24 +54,6 @@ module _ (i now : ℕ) (is : List Item) {u v u₁ v₁ : List ℕ} {n n₁ : ℕ
   pub quiet-tries : {x : ℕ} → x ≡ length (events is) → (x ≡ 0 → ⊥) → Does (try_line_up true i now) u v n u₁ v₁ n₁ → Does (quiet_line_up i now is) u v n u₁ v₁ n₁
   unfolding quiet_line_up
   quiet-tries p z d = does-as (try_line_up true i now) (quiet_line_up i now is) (λ k s. rw (nil-some (events is) (λ e. z (p ∙ e))) refl) d
-
--- ---- whether it fits
-
-module _ (u : List ℕ) (i : ℕ) {x : ℕ} (p : x ≡ length (events (items_of (conn_at i (market_of u)).line))) where
-  abbrev its : List Item
-  its = items_of (conn_at i (market_of u)).line
-
-  abbrev found : Option (ℕ × ℕ)
-  found = aligns true (conn_at i (market_of u)).line (market_of u)
-
-  pub fits-empty : x ≡ 0 → true ≡ fits_quietly (conn_at i (market_of u)).line (market_of u)
-  fits-empty z = rw (nil-none (events its) (sym p ∙ z)) refl
-
-  pub fits-at : (r : Place) (j n : ℕ) → r ≡ place_of (market_of u).log.base found → r ≡ Place.At j n → true ≡ fits_quietly (conn_at i (market_of u)).line (market_of u)
-  fits-at r j n q e = rw (place-some (market_of u).log.base j n found q e) (sym (or-true (nil (events its))))
-
-  pub fits-nowhere : (x ≡ 0 → ⊥) → (r : Place) → r ≡ place_of (market_of u).log.base found → r ≡ Place.Nowhere → false ≡ fits_quietly (conn_at i (market_of u)).line (market_of u)
-  fits-nowhere z r q e = rw (nil-some (events its) (λ y. z (p ∙ y)), place_none (market_of u).log.base found q e) refl
 
 -- ---- whether it may line up quietly
 
@@ -120,7 +86,7 @@ module _ (u : List ℕ) (i now : ℕ) (same : Bool) where
 
   module _ {h : Head} (e : h ≡ head_of u) {a : Bool} (p : a ≡ quiet_stamp h.last now true) where
     calm-is : calm ≡ a
-    calm-is = sym (p ∙ ap (λ (s : Stamp). quiet_stamp s now true) (ap (λ (x : Head). x.last) e ∙ sym (market-last u)))
+    calm-is = sym (p ∙ ap (λ (s : Option ℕ). quiet_stamp s now true) (ap (λ (x : Head). x.last) e ∙ sym (market-last u)))
 
     -- the log is not quiet
     pub quietly-loud : a ≡ false → false ≡ It

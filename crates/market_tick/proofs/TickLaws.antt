@@ -1,4 +1,5 @@
 -- The turns one after the other, and the tick.
+use Rattle.std.specs.Prelude.{Option, None}
 use mathlib.Core.Path.{◌≡◌, refl, sym, ap, ◌∙◌, subst}
 use mathlib.Core.List.{List, [], ◌++◌}
 use mathlib.Core.Bool.{Bool, true, false, not, ◌&&◌}
@@ -11,8 +12,6 @@ use Rattle.rules.specs.declared.Applied.{Applied}
 use Rattle.rules.specs.declared.Expired.{Expired}
 use Rattle.rules.specs.declared.Item.{Item}
 use Rattle.rules.specs.declared.Limits.{Limits}
-use Rattle.rules.specs.declared.Stamp.{Stamp}
-use Rattle.rules.specs.declared.Stamp.TheVariants as Stamp
 use Rattle.rules.specs.Lists.{is_some, nil}
 use Rattle.rules.specs.Quantities.{age, align_timeout}
 use Rattle.rules.specs.Log.{end, prune}
@@ -84,7 +83,7 @@ KeptTurn n (stop rs w) = Kept n w
 fails-kept : (n i : ℕ) (w : Work) → Kept n w → KeptTurn n (fails i w)
 fails-kept n i w h = length-set w.market.lines i _ ∙ h
 
-time_out-kept : (n i : ℕ) (is : List Item) (at : Stamp) (since now : ℕ) (w : Work) → Kept n w → KeptTurn n (time_out i is at since now w)
+time_out-kept : (n i : ℕ) (is : List Item) (at : Option ℕ) (since now : ℕ) (w : Work) → Kept n w → KeptTurn n (time_out i is at since now w)
 unfolding time_out rebuild_from
 time_out-kept n i is at since now w h =
     by_cond (KeptTurn n) (leb align_timeout (age now since))
@@ -95,7 +94,7 @@ time_out-kept n i is at since now w h =
 turn-kept : (n i : ℕ) (due same : Bool) (now : ℕ) (w : Work) (l : Line) → Kept n w → KeptTurn n (turn i due same now w l)
 unfolding turn
 turn-kept n i due same now w (InLine x a b) h = by_cond (KeptTurn n) (ltb x w.market.log.base) (λ q. fails-kept n i w h) (λ q. h)
-turn-kept n i due same now w (Waiting is since) h = time_out-kept n i is Stamp.Never since now w h
+turn-kept n i due same now w (Waiting is since) h = time_out-kept n i is None since now w h
 turn-kept n i due same now w Failed h = h
 turn-kept n i due same now w (Pending is at since) h =
     let m = w.market in

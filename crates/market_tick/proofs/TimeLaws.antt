@@ -2,18 +2,16 @@
 use mathlib.Core.Path.{◌≡◌, refl, sym, ap, ◌∙◌, subst}
 use mathlib.Core.List.{List}
 use mathlib.Core.Bool.{Bool, true, false, not, ◌&&◌, cond}
-use mathlib.Core.Option.{Option}
 use Prim.Native.Nat.{ℕ, ◌<◌}
 use lib.Dec.{leb, ltb}
 use Rattle.rules.specs.Lists.{is_some}
 use Rattle.rules.specs.Quantities.{age, align_timeout}
-use Rattle.rules.specs.Lines.{Failed, InLine, Line, Market, Pending, Waiting, conn_at, is_failed, is_pending, items_of, someone}
+use Rattle.rules.specs.Lines.{Failed, InLine, Line, Pending, Waiting, conn_at, is_failed, is_pending, items_of, someone}
 use Rattle.rules.specs.Entering.{Work, aligns, sweep, try_line_up}
 use Rattle.rules.specs.Tick.{Turn, quiet_line_up, quietly, turn}
 use Rattle.rules.proofs.Tests.{ff≢tt}
 use Rattle.lines.specs.declared.Line as Value
 use Rattle.lines.specs.declared.Aging.{Aging}
-use Rattle.lines.specs.declared.Aging.TheVariants as Aging
 use Rattle.lines.specs.declared.Aged.{Aged}
 use Rattle.lines.specs.Line.{line_of, Stands, time_step, Ages}
 use Rattle.lines.specs.Area.{head_line}
@@ -25,8 +23,7 @@ use Rattle.store.specs.ConnMoves.{items_at, NotFailed}
 use Rattle.store.proofs.MarketLaws.{market-base}
 use Rattle.store.proofs.ConnLaws.{line-words}
 use Rattle.market_tick.specs.declared.Way.{Way}
-use Rattle.market_tick.specs.declared.Way.TheVariants as Way
-use Rattle.market_tick.specs.Turns.{Pends, aligned_by, quietly_of, following_way, way_of}
+use Rattle.market_tick.specs.Turns.{Pends, aligned_by, following_way, way_of}
 
 -- ---- time
 
@@ -123,55 +120,16 @@ turn_is i due same now k Failed = time-steps.turns i due same now k Failed refl
 
 -- ---- the way by what the code asks
 
--- only a pending line has one
-abbrev somewhere : Way → Bool
-somewhere Way.Aligns = true
-somewhere Way.Quietly = true
-somewhere Way.Nowhere = false
-
-only-pending : (due same : Bool) (now : ℕ) (m : Market) (l : Line) → somewhere (way_of due same now m l) ≡ true → is_pending l ≡ true
-only-pending due same now m (Waiting is since) e = absurd (ff≢tt refl e)
-only-pending due same now m (Pending is at since) e = refl
-only-pending due same now m (InLine n a b) e = absurd (ff≢tt refl e)
-only-pending due same now m Failed e = absurd (ff≢tt refl e)
-
 module _ (u : List ℕ) (i now : ℕ) (same : Bool) where
   abbrev line : Line
   line = (conn_at i (market_of u)).line
-
-  abbrev place : Option (ℕ × ℕ)
-  place = aligns false line (market_of u)
-
-  -- its place is known
-  pub follows-up : is_some place ≡ true → Way.Aligns ≡ following_way same now (market_of u) line
-  follows-up a = λ j. cond (sym a j) Way.Aligns (cond (quietly_of line same now (market_of u)) Way.Quietly Way.Nowhere)
-
-  module _ (a : is_some place ≡ false) {r : Bool} (e : r ≡ quietly_of line same now (market_of u)) where
-    pub follows-quietly : r ≡ true → Way.Quietly ≡ following_way same now (market_of u) line
-    follows-quietly z = λ j. cond (sym a j) Way.Aligns (cond ((sym z ∙ e) j) Way.Quietly Way.Nowhere)
-
-    pub follows-nowhere : r ≡ false → Way.Nowhere ≡ following_way same now (market_of u) line
-    follows-nowhere z = λ j. cond (sym a j) Way.Aligns (cond ((sym z ∙ e) j) Way.Quietly Way.Nowhere)
 
   module _ (due : Bool) where
     abbrev way : Way
     way = way_of due same now (market_of u) line
 
-    pub way-pends : {r : Way} → r ≡ way → r ≡ Way.Quietly → Pends u i
-    way-pends e z = only-pending due same now (market_of u) line (ap somewhere (sym e ∙ z))
-
     pub way-nowhere : (is_pending line && (someone (market_of u).lines && not due)) ≡ false → Way.Nowhere ≡ way
     way-nowhere e = λ j. cond (sym e j) (following_way same now (market_of u) line) Way.Nowhere
-
-    pub way-follows : {r : Way} → (is_pending line && (someone (market_of u).lines && not due)) ≡ true
-        → r ≡ following_way same now (market_of u) line → r ≡ way
-    way-follows e f = f ∙ (λ j. cond (sym e j) (following_way same now (market_of u) line) Way.Nowhere)
-
--- whether it follows those in line
-pub due-late : (a b : Bool) {due : Bool} → due ≡ true → (a && (b && not due)) ≡ false
-due-late true true e = ap not e
-due-late true false e = refl
-due-late false b e = refl
 
 pub other-late : {a : Bool} (b : Bool) → a ≡ false → (a && b) ≡ false
 other-late b e = ap (λ (x : Bool). x && b) e
@@ -179,6 +137,3 @@ other-late b e = ap (λ (x : Bool). x && b) e
 pub none-late : (a : Bool) {b : Bool} (c : Bool) → b ≡ false → (a && (b && c)) ≡ false
 none-late true c e = other-late c e
 none-late false c e = refl
-
-pub all-follow : {a b due : Bool} → a ≡ true → b ≡ true → due ≡ false → (a && (b && not due)) ≡ true
-all-follow p q r = λ j. p j && (q j && not (r j))

@@ -8,7 +8,6 @@ use native.Mathlib.Omega.{arith}
 use lib.Dec.{ltb}
 use lib.ListN.{length, take-append-drop, length-append, length-map, get_or-map}
 use Rattle.rules.specs.declared.Expired.{Expired}
-use Rattle.rules.specs.declared.Expired.TheVariants as Expired
 use Rattle.rules.specs.declared.Limits.{Limits}
 use Rattle.rules.specs.Log.{Log, clear}
 use Rattle.rules.specs.Lines.{Connection, Failed, InLine, Line, Market, Pending, Waiting, conn_at, is_failed, is_pending, items_of, nobody, set_conn, set_line, with_line, with_log}

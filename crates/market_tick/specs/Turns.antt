@@ -1,7 +1,6 @@
 -- What a line's turn in a tick leaves.
 use Rattle.std.specs.Prelude.{◌≡◌, List, [], ◌∷◌, Bool, true, false, not, ◌&&◌, ◌||◌, cond, ℕ, ◌+◌, ◌-◌, ◌*◌, ◌≤◌, ◌<◌, ltb, length}
 use Rattle.rules.specs.declared.Expired.{Expired}
-use Rattle.rules.specs.declared.Expired.TheVariants as Expired
 use Rattle.rules.specs.Lists.{nil, is_some}
 use Rattle.rules.specs.Lines.{Line, Market, events, items_of, is_pending, conn_at, someone}
 use Rattle.rules.specs.Calls.{Outcome, refused, did}
@@ -12,7 +11,6 @@ use Rattle.store.specs.Store.{line_count, market_of}
 use Rattle.output.specs.Output.{reports_words, over_at}
 use Rattle.market_tick.specs.declared.Turned.{Turned}
 use Rattle.market_tick.specs.declared.Way.{Way}
-use Rattle.market_tick.specs.declared.Way.TheVariants as Way
 use Rattle.moves.specs.Does.{Goes, Ready}
 use Rattle.market.specs.Lent.{Lent}
 

@@ -16,19 +16,18 @@ ghost use Rattle.market.specs.Lent.{Answers, Roomy};
 ghost use Rattle.market_tick.specs.Turns.{Turns, TurnRoom, Pends, AlignedReport, aligned_by, fits_quietly, quietly_of, following_way, way_of, TurnsEnd, lent_all};
 
 use lines::{Aging, Line};
-use place::Place;
 use rules::{Expired, Ticked};
 
 // A tick under way: how many records and reports there are, and whether it has stopped.
-#[derive(Clone, Copy)]
+#[derive(Clone, Copy, Debug, PartialEq, Eq)]
 pub struct Turned {
     pub n: usize,
     pub m: usize,
     pub stopped: bool,
 }
 
-// How a line may line up in its turn: by its events, quietly, or not.
-#[derive(Clone, Copy)]
+// How a line may line up in its turn: by its events, quietly, or not. Three ways, none of which has a value: an Option of two says it no plainer.
+#[derive(Clone, Copy, Debug, PartialEq, Eq)]
 pub enum Way {
     Aligns,
     Quietly,
@@ -106,15 +105,13 @@ fn ages(s: &mut [u64], out: &mut [u64], reports: &mut [u64], k: Turned, i: usize
 {
     let base = store::entries::base(s);
     let aged = store::conns::line_at(s, i).time(base, t);
-    let line = aged.line;
-    let aging = aged.aging;
-    match aging {
+    match aged.aging {
         Aging::Stays => Turned {
             n: k.n,
             m: k.m,
             stopped: false,
         },
-        Aging::Fails => fails(s, reports, k, i, line),
+        Aging::Fails => fails(s, reports, k, i, aged.line),
         Aging::Rebuilds => rebuild_from(s, out, reports, k, i, t),
     }
 }
@@ -124,14 +121,7 @@ fn fits_quietly(s: &[u64], i: usize) -> bool
     requires { (Sound s.now) × (i < line_count s.now) }
     ensures { result ≡ fits_quietly (conn_at i (market_of s.now)).line (market_of s.now) }
 {
-    if moves::reads::events_held(s, i) == 0 {
-        return true;
-    }
-    let place = moves::reads::alignment(s, i, true);
-    match place {
-        Place::At(_, _) => true,
-        Place::Nowhere => false,
-    }
+    moves::reads::events_held(s, i) == 0 || moves::reads::alignment(s, i, true).is_some()
 }
 
 // Whether the i-th line may line up quietly at t.
@@ -139,16 +129,10 @@ fn quietly(s: &[u64], i: usize, same: bool, t: u64) -> bool
     requires { (Sound s.now) × (i < line_count s.now) }
     ensures { result ≡ quietly_of (conn_at i (market_of s.now)).line same t (market_of s.now) }
 {
-    let head = store::entries::head(s);
-    let last = head.last;
-    if event_log::quiet(last, t, true) {
-        if store::conns::line_at(s, i).quiet(t) {
-            if same {
-                return fits_quietly(s, i);
-            }
-        }
-    }
-    false
+    event_log::quiet(store::entries::head(s).last, t, true)
+        && store::conns::line_at(s, i).quiet(t)
+        && same
+        && fits_quietly(s, i)
 }
 
 // The i-th line lines up quietly; without events it enters at the end.
@@ -199,15 +183,12 @@ fn following(s: &[u64], i: usize, same: bool, t: u64) -> Way
     requires { (Sound s.now) × (i < line_count s.now) }
     ensures { result ≡ following_way same t (market_of s.now) (conn_at i (market_of s.now)).line }
 {
-    let place = moves::reads::alignment(s, i, false);
-    match place {
-        Place::At(_, _) => Way::Aligns,
-        Place::Nowhere => {
-            if quietly(s, i, same, t) {
-                return Way::Quietly;
-            }
-            Way::Nowhere
-        }
+    if moves::reads::alignment(s, i, false).is_some() {
+        Way::Aligns
+    } else if quietly(s, i, same, t) {
+        Way::Quietly
+    } else {
+        Way::Nowhere
     }
 }
 
@@ -219,12 +200,11 @@ fn way_of(s: &[u64], i: usize, due: bool, same: bool, t: u64) -> Way
     if due {
         return Way::Nowhere;
     }
-    if store::conns::line_at(s, i).pending() {
-        if store::conns::any_in_line(s) {
-            return following(s, i, same, t);
-        }
+    if store::conns::line_at(s, i).pending() && store::conns::any_in_line(s) {
+        following(s, i, same, t)
+    } else {
+        Way::Nowhere
     }
-    Way::Nowhere
 }
 
 // The i-th line's turn; due: some line was due a snapshot at the tick's start; same: its view answer is yes.
@@ -242,8 +222,7 @@ fn turn(
     ensures { Turns (λ w. Rules.turn i due same t w (conn_at i (market_of s.old)).line)
         s.old out.old reports.old k s.new out.new reports.new result }
 {
-    let way = way_of(s, i, due, same, t);
-    match way {
+    match way_of(s, i, due, same, t) {
         Way::Aligns => align(s, out, reports, k, i, t),
         Way::Quietly => align_quietly(s, out, reports, k, i, t),
         Way::Nowhere => ages(s, out, reports, k, i, t),
@@ -263,20 +242,16 @@ fn turns(
     ensures { TurnsEnd due answers.now t
         s.old out.old reports.old s.new out.new reports.new result }
 {
-    let lines = store::conns::count(s);
     let mut k = Turned {
         n: 0,
         m: 0,
         stopped: false,
     };
-    let mut i = 0;
-    while i < lines {
-        let same = answers[i] == 1;
-        k = turn(s, out, reports, k, i, due, same, t);
+    for (i, answer) in answers.iter().enumerate() {
+        k = turn(s, out, reports, k, i, due, *answer == 1, t);
         if k.stopped {
-            return k;
+            break;
         }
-        i += 1;
     }
     k
 }
@@ -285,14 +260,14 @@ fn turns(
 pub fn tick(s: &mut [u64], out: &mut [u64], reports: &mut [u64], answers: &[u64], t: u64) -> Ticked
     requires { (Roomy s.old out.old) × ((3 * (limits_of s.old).L ≤ length reports.old) × (length answers.now ≡ line_count s.old)) }
     ensures { Answers (Rules.tick answers.now t (market_of s.old))
-        (lent_all s.old out.old reports.old) (of_ticked result)
+        (lent_all s.old out.old reports.old) (of_ticked (Ok result))
         (lent_all s.new out.new reports.new) }
 {
     let due = store::conns::some_due(s);
     store::entries::prune(s, t);
     store::tables::expire(s, t);
     let k = turns(s, out, reports, answers, due, t);
-    Ticked::Done {
+    Ticked {
         reports: k.m,
         records: k.n,
     }

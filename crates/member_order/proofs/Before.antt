@@ -8,7 +8,7 @@ use lib.Dec.{ltb}
 use borrow.Author.Tests.{ltb-true, ltb-false, lt-ltb, le-ltb}
 use Rattle.rules.proofs.Tests.{ff≢tt}
 use Rattle.json_text.specs.Content.{before}
-use Rattle.member_order.specs.declared.compare.Order.{Order}
+use Rattle.std.specs.declared.cmp.Ordering.{Ordering}
 use Rattle.member_order.specs.Names.{pick_order, order_of}
 
 cons : {a b : ℕ} {x y : List ℕ} → a ≡ b → x ≡ y → a ∷ x ≡ b ∷ y
@@ -99,21 +99,16 @@ lies x y = go (before x y) (before y x) refl refl
     go false false p q = same (same-unless-before x y p q)
 
 -- what an order says of two names
-abbrev pub Says : List ℕ → List ℕ → Order → Type 0
-Says x y Order.Before = before x y ≡ true
-Says x y Order.Same = x ≡ y
-Says x y Order.After = before y x ≡ true
+abbrev pub Says : List ℕ → List ℕ → Ordering → Type 0
+Says x y Ordering.Less = before x y ≡ true
+Says x y Ordering.Equal = x ≡ y
+Says x y Ordering.Greater = before y x ≡ true
 
 pub order-says : (x y : List ℕ) → Says x y (order_of x y)
 unfolding order_of
 order-says x y = go (before x y) (before y x) refl refl
   where
-    go : (s t : Bool) → before x y ≡ s → before y x ≡ t → Says x y (pick_order s Order.Before (pick_order t Order.After Order.Same))
+    go : (s t : Bool) → before x y ≡ s → before y x ≡ t → Says x y (pick_order s Ordering.Less (pick_order t Ordering.Greater Ordering.Equal))
     go true t p q = p
     go false true p q = q
     go false false p q = same-unless-before x y p q
-
--- the order of the names at two places, from that of the names at equal places
-pub order-at : (name : ℕ → List ℕ) (p q p' q' : ℕ) (o k : Order) → p' ≡ p → q' ≡ q → o ≡ order_of (name p') (name q') → o ≡ k
-    → k ≡ order_of (name p) (name q)
-order-at name p q p' q' o k a b e f = cc

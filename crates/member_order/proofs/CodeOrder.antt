@@ -5,6 +5,7 @@ use mathlib.Core.List.{List, [], ◌∷◌}
 use Prim.Native.Nat.{ℕ, zero, suc, ◌+◌, ◌*◌, ◌-◌, ◌<◌}
 use native.Mathlib.Omega.{arith}
 use borrow.Author.Tests.{ltb-true, ltb-false}
+use mir.Val.{bool_byte}
 use lib.Dec.{ltb}
 use lib.ListN.{drop}
 use Rattle.json_text.specs.Content.{before}
@@ -41,12 +42,12 @@ codes-before {x} {y} p q h = code-before 6 0 x y p.digits q.digits (omega (arith
 
 -- what is chosen by codes that differ
 module _ {nx ny : List ℕ} {c d : ℕ} (p : CodeOf nx c) (q : CodeOf ny d) (n : c ≡ d → ⊥) where
-  pub chosen : (x y i j w k : ℕ) → w ≡ cond (ltb c d) x y → k ≡ cond (ltb c d) 1 0
+  pub chosen : (x y i j w k : ℕ) → w ≡ cond (ltb c d) x y → k ≡ bool_byte (ltb c d)
       → record { word = w; i = i + k; j = j + 1 - k } ≡ pick_by (order_of nx ny) x y i j
   unfolding order_of
   chosen x y i j w k e f = go (ltb c d) refl e f
     where
-      go : (b : Bool) → ltb c d ≡ b → w ≡ cond b x y → k ≡ cond b 1 0
+      go : (b : Bool) → ltb c d ≡ b → w ≡ cond b x y → k ≡ bool_byte b
           → record { word = w; i = i + k; j = j + 1 - k } ≡ pick_by (order_of nx ny) x y i j
       go true t u v =
           let r : j + 1 - k ≡ j = omega arith in

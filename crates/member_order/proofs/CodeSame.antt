@@ -7,7 +7,7 @@ use native.Mathlib.Omega.{arith}
 use lib.ListN.{drop}
 use lib.Seq.{drop-drop}
 use Rattle.json_text.specs.Content.{before}
-use Rattle.member_order.specs.declared.compare.Order.TheVariants as Order
+use Rattle.std.specs.declared.cmp.Ordering.TheVariants as Ordering
 use Rattle.member_order.specs.Codes.{digit, code_from, Digits, CodeOf, name_of, Coded}
 use Rattle.member_order.specs.Names.{name_in, order_of}
 use Rattle.member_order.proofs.Before.{before-equal, Bytes, bytes, less, more, equal}
@@ -73,7 +73,7 @@ module _ (w : List ℕ) (x y : ℕ) (p : Coded (name_in w) x) (q : Coded (name_i
   behind : order_of (drop 6 (name_of (name_in w) x)) (drop 6 (name_of (name_in w) y)) ≡ order_of (name_of (name_in w) x) (name_of (name_in w) y)
   behind = sym (code_same 6 0 _ _ p.digits q.digits (sym p.is ∙ e ∙ q.is))
 
-  pub both-ended : x / 65536 % 256 ≡ 0 → Order.Same ≡ order_of (name_of (name_in w) x) (name_of (name_in w) y)
+  pub both-ended : x / 65536 % 256 ≡ 0 → Ordering.Equal ≡ order_of (name_of (name_in w) x) (name_of (name_in w) y)
   unfolding order_of before
   both-ended z =
       let f : digit (drop 5 (name_of (name_in w) x)) ≡ 0 = sym (last-digit p) ∙ z in

@@ -2,15 +2,17 @@
 use mathlib.Core.Path.{◌≡◌, refl, sym, ◌∙◌, ap}
 use mathlib.Core.Bool.{Bool, true, false, ◌&&◌, cond}
 use mathlib.Core.List.{List, [], ◌∷◌}
-use Prim.Native.Nat.{ℕ, zero, suc, ◌+◌, ◌≤◌, ◌<◌}
+use Prim.Native.Nat.{ℕ, zero, suc, ◌+◌, ◌-◌, ◌*◌, ◌≤◌, ◌<◌}
 use native.Mathlib.Omega.{arith}
-use borrow.Author.Tests.{ltb-true}
+use borrow.Author.Tests.{ltb-true, lt-ltb}
 use lib.Dec.{ltb, eqb}
 use lib.ListN.{length, take, drop, length-take, length-drop}
-use Rattle.json_text.specs.Bytes.{within, plain, tail, first_of_three, first_of_four, escape_of, is_scalar, is_high, is_low}
-use Rattle.json_text.specs.Work.{byte_at, hex_at, pair_len, escape_len, utf8_len, char_len}
+use Rattle.json_text.specs.Bytes.{within, plain, tail, first_of_three, first_of_four, escape_of, is_scalar, is_high, is_low, joined, utf8}
+use Rattle.json_text.specs.Work.{Below, byte_at, hex_at, pair_len, escape_len, utf8_len, char_len}
 use Rattle.json_text.proofs.Bounds.{byte-drop}
 use Rattle.json_text.proofs.CharSteps.{char-fits}
+use Rattle.json_text.proofs.Lengths.{hex-drop}
+use Rattle.std.specs.Prelude.{Option, Some, None, IsSome}
 use Rattle.json_text.proofs.Places.{byte-here}
 use Rattle.json_text.proofs.Tests.{within_low, within-high}
 use Rattle.rules.proofs.Tests.{ff≢tt, by_cond, and-true-left, and-true-right}
@@ -68,6 +70,53 @@ module _ (s : List ℕ) (e : byte_at s 0 ≡ 0x5C) where
           low-low = within_low 0xDC00 0xDFFF _ low;
           low-high = within-high 0xDC00 0xDFFF _ low;
         }
+
+-- an escape at a place, by what is read of it: behind the backslash b, and two numbers of four digits each
+module _
+    (t : List ℕ) (at b : ℕ) (e : byte_at (drop at t) 0 ≡ 0x5C) (h : 0 < char_len (drop at t)) (p : b ≡ byte_at t (at + 1))
+  where
+    stands : escape_of (byte_at (drop at t) 1) ≡ escape_of b
+    stands = ap escape_of (byte-drop at t 1 ∙ sym p)
+
+    pub reads-one : {d : Decoded} (n : ℕ) → escape_of b ≡ n → n < 256 → Decodes (n ∷ []) d → Decodes (escape_text (drop at t)) d
+    unfolding escape_text
+    reads-one n q l z = let u = stands ∙ q in rw (u, lt-ltb n 256 l) z
+
+    module _ (n : escape_of b ≡ 256) where
+      none : ltb (escape_of (byte_at (drop at t) 1)) 256 ≡ false
+      none = let u = stands ∙ n in rw u
+
+      pub first-digits : (r : Option ℕ) → Below 65536 (hex_at t (at + 2)) r → IsSome r
+      unfolding is_scalar within
+      first-digits (Some x) k = refl
+      first-digits None k =
+          let q : hex_at (drop at t) 2 ≡ 65536 = hex-drop t at 2 ∙ k in
+          let m : is_scalar (hex_at (drop at t) 2) ≡ false = rw q in
+          absurd (omega (arith, q, (pair-halves (drop at t) e none m h).high-high))
+
+      module _ (x : ℕ) (i : hex_at t (at + 2) ≡ x) where
+        first-is : hex_at (drop at t) 2 ≡ x
+        first-is = hex-drop t at 2 ∙ i
+
+        pub reads-scalar : {d : Decoded} → is_scalar x ≡ true → Decodes (utf8 x) d → Decodes (escape_text (drop at t)) d
+        unfolding escape_text
+        reads-scalar m z = rw (none, first-is, m) z
+
+        module _ (m : is_scalar x ≡ false) where
+          halved : Halves (hex_at (drop at t) 2) (hex_at (drop at t) 8)
+          halved = pair-halves (drop at t) e none (rw first-is m) h
+
+          pub second-digits : (r : Option ℕ) → Below 65536 (hex_at t (at + 8)) r → IsSome r
+          second-digits (Some y) k = refl
+          second-digits None k = absurd (omega (arith, hex-drop t at 8, k, halved.low-high))
+
+          module _ (y : ℕ) (j : hex_at t (at + 8) ≡ y) where
+            pub halves-read : Halves x y
+            halves-read = let q = hex-drop t at 8 ∙ j in rw (← first-is, ← q) halved
+
+            pub reads-pair : {d : Decoded} → Decodes (utf8 (0x10000 + (x - 0xD800) * 0x400 + (y - 0xDC00))) d → Decodes (escape_text (drop at t)) d
+            unfolding escape_text joined
+            reads-pair z = let q = hex-drop t at 8 ∙ j in rw (none, first-is, m, q) z
 
 -- what an escape decodes to is what the char stands for
 pub decodes-escape : (t : List ℕ) (at : ℕ) (d : Decoded) → byte_at t at ≡ 0x5C → Decodes (escape_text (drop at t)) d → Decodes (char_text (drop at t)) d

@@ -3,10 +3,13 @@ use mathlib.Core.Path.{◌≡◌, refl, sym, ◌∙◌, ap}
 use mathlib.Core.List.{List, [], ◌∷◌}
 use Prim.Native.Nat.{ℕ, zero, suc, ◌+◌, ◌<◌}
 use native.Mathlib.Omega.{arith}
-use borrow.Author.Tests.{eq-eqb, ne_eqb}
+use borrow.Author.Tests.{eq-eqb, ne_eqb, ltb-true, ltb-false}
+use mathlib.Core.Bool.{Bool, true, false}
+use Rattle.std.specs.Prelude.{nat_lt}
+use Rattle.std.specs.Ordering.{nat_cmp}
 use lib.ListN.{drop, get_or}
 use Rattle.json_text.specs.Content.{before}
-use Rattle.member_order.specs.declared.compare.Order.TheVariants as Order
+use Rattle.std.specs.declared.cmp.Ordering.TheVariants as Ordering
 use Rattle.json_text.specs.Work.{up_to_ff}
 use Rattle.member_order.specs.Names.{name_in, order_of}
 use Rattle.member_order.proofs.Before.{before-less, before_more, before-equal}
@@ -31,27 +34,35 @@ name-at (b ∷ w) (suc i) =
 
 -- two names by their first bytes
 module _ (x y : ℕ) (s u : List ℕ) where
-  pub first_ended : x ≡ 0xFF → (y ≡ 0xFF → ⊥) → Order.Before ≡ order_of (up_to_ff (x ∷ s)) (up_to_ff (y ∷ u))
+  pub first_ended : x ≡ 0xFF → (y ≡ 0xFF → ⊥) → Ordering.Less ≡ order_of (up_to_ff (x ∷ s)) (up_to_ff (y ∷ u))
   unfolding order_of before
   first_ended e n = rw (name-ended x s e, name-more y u n)
 
-  pub second_ended : (x ≡ 0xFF → ⊥) → y ≡ 0xFF → Order.After ≡ order_of (up_to_ff (x ∷ s)) (up_to_ff (y ∷ u))
+  pub second_ended : (x ≡ 0xFF → ⊥) → y ≡ 0xFF → Ordering.Greater ≡ order_of (up_to_ff (x ∷ s)) (up_to_ff (y ∷ u))
   unfolding order_of before
   second_ended n e = rw (name-more x s n, name-ended y u e)
 
-  pub both-ended : x ≡ 0xFF → y ≡ 0xFF → Order.Same ≡ order_of (up_to_ff (x ∷ s)) (up_to_ff (y ∷ u))
+  pub both-ended : x ≡ 0xFF → y ≡ 0xFF → Ordering.Equal ≡ order_of (up_to_ff (x ∷ s)) (up_to_ff (y ∷ u))
   unfolding order_of before
   both-ended e f = rw (name-ended x s e, name-ended y u f)
 
   module _ (n : x ≡ 0xFF → ⊥) (m : y ≡ 0xFF → ⊥) where
-    pub first-less : x < y → Order.Before ≡ order_of (up_to_ff (x ∷ s)) (up_to_ff (y ∷ u))
+    pub first-less : x < y → Ordering.Less ≡ order_of (up_to_ff (x ∷ s)) (up_to_ff (y ∷ u))
     unfolding order_of
     first-less h = rw (name-more x s n, name-more y u m, before-less x y (up_to_ff s) (up_to_ff u) h)
 
-    pub first_more : y < x → Order.After ≡ order_of (up_to_ff (x ∷ s)) (up_to_ff (y ∷ u))
+    pub first_more : y < x → Ordering.Greater ≡ order_of (up_to_ff (x ∷ s)) (up_to_ff (y ∷ u))
     unfolding order_of
     first_more h =
         rw (name-more x s n, name-more y u m, before_more x y (up_to_ff s) (up_to_ff u) h, before-less y x (up_to_ff u) (up_to_ff s) h)
+
+    -- by the bytes' own order
+    pub first_differs : (x ≡ y → ⊥) → nat_cmp x y ≡ order_of (up_to_ff (x ∷ s)) (up_to_ff (y ∷ u))
+    first_differs d = go (nat_lt x y) refl
+      where
+        go : (b : Bool) → nat_lt x y ≡ b → nat_cmp x y ≡ order_of (up_to_ff (x ∷ s)) (up_to_ff (y ∷ u))
+        go true e = rw e (first-less (ltb-true x y e))
+        go false e = rw (e, ne_eqb x y d) (first_more (omega (arith, ltb-false x y e, d)))
 
     pub first-equal : x ≡ y → order_of (up_to_ff s) (up_to_ff u) ≡ order_of (up_to_ff (x ∷ s)) (up_to_ff (y ∷ u))
     unfolding order_of

@@ -7,7 +7,7 @@ use native.Mathlib.Nat.{add-zero}
 use native.Mathlib.Omega.{arith}
 use lib.Dec.{eqb}
 use lib.ListN.{length, get_or, set, length-set}
-use Rattle.member_order.specs.declared.compare.Order.{Order}
+use Rattle.std.specs.declared.cmp.Ordering.{Ordering}
 use Rattle.member_order.specs.declared.sort.Picked.{Picked}
 use Rattle.member_order.specs.Names.{order_of}
 use Rattle.member_order.specs.Order.{insert, insert_all, ordered, run, pick_by, Rewritten}
@@ -52,15 +52,15 @@ module _ (u : List ℕ) (low : ℕ) (fits : low + 2 ≤ length u) where
         × ((p.i ≡ p.j → ⊥) → (z : ℕ) → z ≡ cond (eqb p.i 1) (get_or u (low + 1) 0) (get_or u low 0)
         → Sorted name u low 2 (set (set u low p.word) (low + 1) z) 2)
 
-    left_by : (o : Order) → Says (name (get_or u low 0)) (name (get_or u (low + 1) 0)) o → Left (pick_by o (get_or u low 0) (get_or u (low + 1) 0) 0 0)
+    left_by : (o : Ordering) → Says (name (get_or u low 0)) (name (get_or u (low + 1) 0)) o → Left (pick_by o (get_or u low 0) (get_or u (low + 1) 0) 0 0)
     unfolding insert insert_all
-    left_by Order.Before q =
+    left_by Ordering.Less q =
         let e : ordered name (run u low 2) ≡ get_or u low 0 ∷ get_or u (low + 1) 0 ∷ [] = ap (ordered name) run-two ∙ insert-first name _ _ [] q in
         (λ h. absurd (omega arith), λ h z k. rw (e, k) (rewritten-two (get_or u low 0) (get_or u (low + 1) 0), refl))
-    left_by Order.Same q =
+    left_by Ordering.Equal q =
         let e : ordered name (run u low 2) ≡ get_or u (low + 1) 0 ∷ [] = ap (ordered name) run-two ∙ insert-same name _ _ [] q in
         (λ h. rw e (rewritten-one (get_or u (low + 1) 0), refl), λ h. absurd (h refl))
-    left_by Order.After q =
+    left_by Ordering.Greater q =
         let e : ordered name (run u low 2) ≡ get_or u (low + 1) 0 ∷ get_or u low 0 ∷ [] = ap (ordered name) run-two ∙ insert-later name _ _ [] q in
         (λ h. absurd (omega arith), λ h z k. rw (e, k) (rewritten-two (get_or u (low + 1) 0) (get_or u low 0), refl))
 

@@ -6,7 +6,7 @@ use Prim.Native.Nat.{ℕ, ◌+◌, ◌≤◌, ◌<◌}
 use native.Mathlib.Omega.{arith}
 use lib.ListN.{length, drop, get_or}
 use Rattle.json_text.specs.Content.{before}
-use Rattle.member_order.specs.declared.compare.Order.{Order}
+use Rattle.std.specs.declared.cmp.Ordering.{Ordering}
 use Rattle.member_order.specs.declared.sort.Picked.{Picked}
 use Rattle.member_order.specs.Names.{order_of}
 use Rattle.member_order.specs.Order.{insert_all, run, pick_by, Picks, Rising}
@@ -82,11 +82,11 @@ module _ (name : ℕ → List ℕ) (w : List ℕ) (low a middle b : ℕ) (left :
             omega arith,
           )
 
-      picks-said : (o : Order) → Says (name (get_or w (low + i) 0)) (name (get_or w (middle + j) 0)) o
+      picks-said : (o : Ordering) → Says (name (get_or w (low + i) 0)) (name (get_or w (middle + j) 0)) o
           → Picks name (run w low a) (run w middle b) i j (pick_by o (get_or w (low + i) 0) (get_or w (middle + j) 0) i j)
-      picks-said Order.Before q = picks-before q
-      picks-said Order.Same q = picks-same q
-      picks-said Order.After q = picks-after q
+      picks-said Ordering.Less q = picks-before q
+      picks-said Ordering.Equal q = picks-same q
+      picks-said Ordering.Greater q = picks-after q
 
       pub picks_by :
           (p : Picked) →

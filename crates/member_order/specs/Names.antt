@@ -4,7 +4,7 @@ use Rattle.json_text.specs.Bytes.{plain, escape_of, is_scalar, joined, utf8}
 use Rattle.json_text.specs.Content.{before}
 use Rattle.json_text.specs.Work.{byte_at, hex_at, utf8_len, char_len, up_to_ff}
 use Rattle.member_order.specs.declared.names.Decoded.{Decoded}
-use Rattle.member_order.specs.declared.compare.Order.{Order}
+use Rattle.std.specs.declared.cmp.Ordering.{Ordering}
 
 -- of the char that s begins with
 unfoldable pub escape_text : List ℕ → List ℕ
@@ -41,9 +41,9 @@ pub record Decodes (x : List ℕ) (d : Decoded) : Type 0 where
 abbrev pub name_in : List ℕ → ℕ → List ℕ
 name_in w p = up_to_ff (drop p w)
 
-abbrev pub pick_order : Bool → Order → Order → Order
+abbrev pub pick_order : Bool → Ordering → Ordering → Ordering
 pick_order true a b = a
 pick_order false a b = b
 
-unfoldable pub order_of : List ℕ → List ℕ → Order
-order_of x y = pick_order (before x y) Order.Before (pick_order (before y x) Order.After Order.Same)
+unfoldable pub order_of : List ℕ → List ℕ → Ordering
+order_of x y = pick_order (before x y) Ordering.Less (pick_order (before y x) Ordering.Greater Ordering.Equal)

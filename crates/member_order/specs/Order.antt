@@ -1,7 +1,7 @@
 -- The members of an object, by the places of their names: in the order of their names, of each name the last.
 use Rattle.std.specs.Prelude.{◌≡◌, true, cond, List, [], ◌∷◌, ℕ, ◌+◌, ◌≤◌, ◌<◌, length, take, drop, get_or}
 use Rattle.json_text.specs.Content.{before}
-use Rattle.member_order.specs.declared.compare.Order.{Order}
+use Rattle.std.specs.declared.cmp.Ordering.{Ordering}
 use Rattle.member_order.specs.declared.sort.Picked.{Picked}
 
 -- a place in front of others that lie in order
@@ -29,10 +29,10 @@ abbrev pub Short : List ℕ → Type 0
 Short x = (i : ℕ) → i < length x → get_or x i 0 < 65536
 
 -- what is picked of two words by how their names lie; of equal names the later one
-abbrev pub pick_by : Order → (x y i j : ℕ) → Picked
-pick_by Order.Before x y i j = record { word = x; i = i + 1; j = j }
-pick_by Order.Same x y i j = record { word = y; i = i + 1; j = j + 1 }
-pick_by Order.After x y i j = record { word = y; i = i; j = j + 1 }
+abbrev pub pick_by : Ordering → (x y i j : ℕ) → Picked
+pick_by Ordering.Less x y i j = record { word = x; i = i + 1; j = j }
+pick_by Ordering.Equal x y i j = record { word = y; i = i + 1; j = j + 1 }
+pick_by Ordering.Greater x y i j = record { word = y; i = i; j = j + 1 }
 
 -- the first of a list that picks is made of
 abbrev pub Picks : (name : ℕ → List ℕ) → (x y : List ℕ) (i j : ℕ) → Picked → Type 0

@@ -6,12 +6,6 @@ ghost use Rattle.member_order.specs.Order.{run, Short};
 
 use crate::compare::byte_in;
 
-fn wide(b: u8) -> u64
-    ensures { result ≡ b }
-{
-    b as u64
-}
-
 // The byte at a place and one, 0 at the end of a name.
 fn digit(names: &[u8], at: usize) -> u64
     ensures { (result ≡ digit (name_in names.now at)) × (result < 256) }
@@ -20,7 +14,7 @@ fn digit(names: &[u8], at: usize) -> u64
     if b == 0xFF {
         return 0;
     }
-    wide(b) + 1
+    u64::from(b) + 1
 }
 
 // The digits of a name's first six bytes; behind its end they are 0.
@@ -30,16 +24,11 @@ fn code(names: &[u8], at: usize) -> u64
 {
     let mut code: u64 = 0;
     let mut end = at;
-    let mut i: usize = 0;
-    while i < 6 {
+    for i in 0..6usize {
         let d = digit(names, end);
-        if d == 0 {
-            code = code * 256;
-            i += 1;
-        } else {
-            code = code * 256 + d;
+        code = code * 256 + d;
+        if d != 0 {
             end += 1;
-            i += 1;
         }
     }
     code
@@ -58,10 +47,8 @@ pub fn load(names: &[u8], places: &mut [u64], low: usize, n: usize)
     requires { (low + n ≤ length places.old) × Short (run places.old low n) }
     ensures { Made (WordOf (name_in names.now)) places.old low n places.new }
 {
-    let mut i: usize = 0;
-    while i < n {
+    for i in 0..n {
         places[low + i] = word(names, places[low + i]);
-        i += 1;
     }
 }
 
@@ -70,9 +57,7 @@ pub fn store(words: &mut [u64], low: usize, n: usize)
     requires { low + n ≤ length words.old }
     ensures { Made PlaceOf words.old low n words.new }
 {
-    let mut i: usize = 0;
-    while i < n {
-        words[low + i] = words[low + i] % 65536;
-        i += 1;
+    for i in 0..n {
+        words[low + i] %= 65536;
     }
 }

@@ -71,15 +71,14 @@ fn decode_escape(text: &[u8], at: usize) -> Decoded
     requires { (at ≤ longest) × (byte_at (drop at text.now) 0 ≡ 0x5C) × (0 < char_len (drop at text.now)) }
     ensures { Decodes (escape_text (drop at text.now)) result }
 {
-    let b = escape_of(byte(text, at + 1));
-    if b < 256 {
+    if let Some(b) = escape_of(byte(text, at + 1)) {
         return one(b);
     }
-    let high = hex_at(text, at + 2);
+    let high = hex_at(text, at + 2).unwrap();
     if is_scalar(high) {
         return utf8_of(high);
     }
-    let low = hex_at(text, at + 8);
+    let low = hex_at(text, at + 8).unwrap();
     utf8_of(0x10000 + (high - 0xD800) * 0x400 + (low - 0xDC00))
 }
 
@@ -89,12 +88,11 @@ fn byte_of(text: &[u8], at: usize, i: usize, n: usize) -> u8
     ensures { i < n → at + i < length text.now → result ≡ byte_at text.now (at + i) }
 {
     let place = at + i;
-    if i < n {
-        if place < text.len() {
-            return text[place];
-        }
+    if i < n && place < text.len() {
+        text[place]
+    } else {
+        0
     }
-    0
 }
 
 // A char of n bytes, which stands at the place.

@@ -7,7 +7,6 @@ use lib.ListN.{length, length-append, take-append-drop}
 use Rattle.rules.specs.declared.Applied.{Applied}
 use Rattle.rules.specs.Lines.{Market}
 use Rattle.rules.specs.Entering.{Work, begin, on_market, put_out}
-use Rattle.rules.specs.Sound as Rules
 use Rattle.rules.specs.Sound.{holdings}
 use Rattle.rules.proofs.ListLaws.{append-nil}
 use Rattle.rules.proofs.SoundMoves.{Bound, SoundW}

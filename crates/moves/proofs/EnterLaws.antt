@@ -5,13 +5,13 @@ use mathlib.Core.Bool.{Bool, true, false, not, cond}
 use Prim.Native.Nat.{ℕ, ◌+◌, ◌-◌, ◌^◌, ◌≤◌, ◌<◌}
 use native.Mathlib.Omega.{arith}
 use lib.Dec.{ltb}
-use lib.ListN.{length, set}
+use lib.ListN.{length}
 use Rattle.rules.specs.declared.Item.{Item}
 use Rattle.rules.specs.Quantities.{Key, print_out}
 use Rattle.rules.specs.Lists.{any}
 use Rattle.rules.specs.Log.{end}
 use Rattle.rules.specs.Prints.{applied_in, delivered_in, apply_print}
-use Rattle.rules.specs.Lines.{Connection, Line, InLine, Market, conn_at, nobody, items_of, snapshot_of, with_lines, with_prints, set_conn, set_line}
+use Rattle.rules.specs.Lines.{Connection, Line, InLine, Market, conn_at, items_of, snapshot_of, with_lines, with_prints, set_conn, set_line}
 use Rattle.rules.specs.Sound.{PrintsSound}
 use Rattle.rules.specs.Entering.{Work, on_market, put_out, put_items, release, enter, take_over}
 use Rattle.rules.proofs.Loops.{release-lines, entered}

@@ -8,7 +8,6 @@ use borrow.Author.Tests.{lt-ltb, le-ltb}
 use lib.Dec.{ltb}
 use lib.ListN.{length}
 use Rattle.rules.specs.declared.Item.{Item}
-use Rattle.rules.specs.declared.Item.TheVariants as Item
 use Rattle.rules.specs.Quantities.{Key, book_out, snapshot_out, print_out}
 use Rattle.rules.specs.Log.{end, push, stamp}
 use Rattle.rules.specs.Prints.{applied_in, delivered_in, apply_print}

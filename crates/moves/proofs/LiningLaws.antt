@@ -1,8 +1,8 @@
 -- Laws of trying to line up, of a round and of the sweep.
+use Rattle.std.specs.Prelude.{Option, None, Some}
 use mathlib.Core.Path.{◌≡◌, refl, sym, ap, ◌∙◌}
 use mathlib.Core.Logic.{◌≢◌}
 use mathlib.Core.List.{List, map}
-use mathlib.Core.Option.{Option, none, some}
 use mathlib.Core.Bool.{Bool, true, false, ◌||◌, cond}
 use Prim.Native.Nat.{ℕ, suc, ◌+◌, ◌-◌, ◌≤◌, ◌<◌}
 use native.Mathlib.Nat.{sub-zero}
@@ -23,7 +23,6 @@ use Rattle.rules.proofs.Moves.{alignment-fits}
 use Rattle.rules.proofs.Loops.{line_up-lines, round-pendings, sweep-loop, sweep-idle}
 use Rattle.rules.proofs.SoundMoves.{try_line_up-sound, round-sound}
 use Rattle.place.specs.declared.Place.{Place}
-use Rattle.place.specs.declared.Place.TheVariants as Place
 use Rattle.place.specs.Items.{place_of}
 use Rattle.store.specs.Store.{head_of, line_count, market_of}
 use Rattle.store.proofs.MarketLaws.{market-base, entry-count, lines-count}
@@ -35,7 +34,7 @@ use Rattle.moves.proofs.LeftLaws.{Left, left-start, left-then, left-done}
 -- ---- a place
 
 -- of a place (j, x), the held events have a j-th or end there
-alignment-held : (quiet : Bool) (hs ks : List Key) (p : Rules.Place) → alignment quiet hs ks ≡ some p → p.0 ≤ length hs
+alignment-held : (quiet : Bool) (hs ks : List Key) (p : Rules.Place) → alignment quiet hs ks ≡ Some p → p.0 ≤ length hs
 unfolding alignment
 alignment-held quiet hs ks p e =
     let P : Rules.Place → Type 0 = λ q. q.0 ≤ length hs in
@@ -44,29 +43,30 @@ alignment-held quiet hs ks p e =
     (each_map (λ i. (1 ≤ i) × (i < 1 + (length hs - 1))) P (λ j. (j, 0)) (λ i h. omega arith) (count 1 (length hs - 1)) (each-count 1 (length hs - 1))) in
     go all (nil hs || nil ks) e
   where
-    go : Each (λ (q : Rules.Place). q.0 ≤ length hs) (places hs ks) → (b : Bool) → cond b none (only (keep (counts quiet hs ks) (places hs ks))) ≡ some p → p.0 ≤ length hs
+    go : Each (λ (q : Rules.Place). q.0 ≤ length hs) (places hs ks) → (b : Bool) → cond b None (only (keep (counts quiet hs ks) (places hs ks))) ≡ Some p → p.0 ≤ length hs
     go all true h = absurd (none≢some h)
     go all false h = only-in (λ (q : Rules.Place). q.0 ≤ length hs) (keep (counts quiet hs ks) (places hs ks)) p h (each_keep (λ (q : Rules.Place). q.0 ≤ length hs) (counts quiet hs ks) (places hs ks) all)
 
 -- the place that an answer names
-placed : (b j p : ℕ) (o : Option (ℕ × ℕ)) → Place.At j p ≡ place_of b o → (o ≡ some (j, p - b)) × (b ≤ p)
-placed b j p none e = absurd (let z : ◌≡◌ {A = ℕ} 0 1 = cc in omega arith)
-placed b j p (some (i, x)) e =
-    let a : j ≡ i = cc in
-    let d : p ≡ b + x = cc in
-    let f : x ≡ p - b = omega arith in
-    ((λ z. some (sym a z, f z)), omega arith)
+placed : (b : ℕ) (p : Place) (o : Option (ℕ × ℕ)) → Some p ≡ place_of b o → (o ≡ Some (p.event, p.number - b)) × (b ≤ p.number)
+placed b p None e = absurd (none≢some (sym e))
+placed b p (Some (i, x)) e =
+    let q : p ≡ (record { event = i; number = b + x }) = cc in
+    let a : p.event ≡ i = ap (λ (z : Place). z.event) q in
+    let d : p.number ≡ b + x = ap (λ (z : Place). z.number) q in
+    let f : x ≡ p.number - b = omega arith in
+    ((λ z. Some (sym a z, f z)), omega arith)
 
-unplaced : (b : ℕ) (o : Option (ℕ × ℕ)) → Place.Nowhere ≡ place_of b o → o ≡ none
-unplaced b none e = refl
-unplaced b (some p) e = absurd (let z : ◌≡◌ {A = ℕ} 0 1 = cc in omega arith)
+unplaced : (b : ℕ) (o : Option (ℕ × ℕ)) → None ≡ place_of b o → o ≡ None
+unplaced b None e = refl
+unplaced b (Some p) e = absurd (none≢some e)
 
 record Bounded (l : Line) (m : Market) (p : Rules.Place) : Type 0 where
   pending : is_pending l ≡ true
   event : p.0 ≤ length (events (items_of l))
   entry : p.1 ≤ length m.log.entries
 
-bounded : (quiet : Bool) (l : Line) (m : Market) (p : Rules.Place) → aligns quiet l m ≡ some p → Bounded l m p
+bounded : (quiet : Bool) (l : Line) (m : Market) (p : Rules.Place) → aligns quiet l m ≡ Some p → Bounded l m p
 bounded quiet (Waiting is since) m p e = absurd (none≢some e)
 bounded quiet (InLine n a b) m p e = absurd (none≢some e)
 bounded quiet Failed m p e = absurd (none≢some e)
@@ -78,36 +78,36 @@ bounded quiet (Pending is at since) m p e =
     let d = length-map (events is) (λ x. x.0) in
     record { pending = refl; event = omega arith; entry = omega arith }
   where
-    un : (b : Bool) → cond b none (alignment quiet (event_keys is) (keys m.log)) ≡ some p → alignment quiet (event_keys is) (keys m.log) ≡ some p
+    un : (b : Bool) → cond b None (alignment quiet (event_keys is) (keys m.log)) ≡ Some p → alignment quiet (event_keys is) (keys m.log) ≡ Some p
     un true h = absurd (none≢some h)
     un false h = h
 
 -- what alignment answers
-abbrev pub place_in : Bool → ℕ → List ℕ → Place
+abbrev pub place_in : Bool → ℕ → List ℕ → Option Place
 place_in quiet i w = place_of (market_of w).log.base (aligns quiet (conn_at i (market_of w)).line (market_of w))
 
 module _ {w v : List ℕ} {n : ℕ} (quiet : Bool) (i t : ℕ) where
-  pub line-up-ready : (j p : ℕ) → Ready w v n → i < line_count w → Place.At j p ≡ place_in quiet i w → Ready w v n × AtPlace w i j p
-  line-up-ready j p r h e =
-      let q = placed (market_of w).log.base j p (aligns quiet (conn_at i (market_of w)).line (market_of w)) e in
-      let b = bounded quiet (conn_at i (market_of w)).line (market_of w) (j, p - (market_of w).log.base) q.0 in
+  pub line-up-ready : (p : Place) → Ready w v n → i < line_count w → Some p ≡ place_in quiet i w → Ready w v n × AtPlace w i p.event p.number
+  line-up-ready p r h e =
+      let q = placed (market_of w).log.base p (aligns quiet (conn_at i (market_of w)).line (market_of w)) e in
+      let b = bounded quiet (conn_at i (market_of w)).line (market_of w) (p.event, p.number - (market_of w).log.base) q.0 in
       let a = b.entry in
       let c = entry-count w in
       let d = market-base w in
       let f = q.1 in
       (r, record { here = h; pending = b.pending; event = b.event; from = omega arith; upto = omega arith })
 
-  pub lined-up : {w₁ v₁ : List ℕ} {n₁ : ℕ} (j p : ℕ) → Place.At j p ≡ place_in quiet i w → Does (line_up i t (j, p - (head_of w).base)) w v n w₁ v₁ n₁ → Does (try_line_up quiet i t) w v n w₁ v₁ n₁
+  pub lined-up : {w₁ v₁ : List ℕ} {n₁ : ℕ} (p : Place) → Some p ≡ place_in quiet i w → Does (line_up i t (p.event, p.number - (head_of w).base)) w v n w₁ v₁ n₁ → Does (try_line_up quiet i t) w v n w₁ v₁ n₁
   unfolding try_line_up
-  lined-up j p e d = does-as (line_up i t (j, p - (head_of w).base)) (try_line_up quiet i t)
-      (λ k m. let q : aligns quiet (conn_at i k.market).line k.market ≡ some (j, p - (head_of w).base) =
-      ap (λ (x : Market). aligns quiet (conn_at i x).line x) m ∙ (placed (market_of w).log.base j p (aligns quiet (conn_at i (market_of w)).line (market_of w)) e).0
-      ∙ ap (λ (b : ℕ). some (j, p - b)) (market-base w) in rw q) d
+  lined-up p e d = does-as (line_up i t (p.event, p.number - (head_of w).base)) (try_line_up quiet i t)
+      (λ k m. let q : aligns quiet (conn_at i k.market).line k.market ≡ Some (p.event, p.number - (head_of w).base) =
+      ap (λ (x : Market). aligns quiet (conn_at i x).line x) m ∙ (placed (market_of w).log.base p (aligns quiet (conn_at i (market_of w)).line (market_of w)) e).0
+      ∙ ap (λ (b : ℕ). Some (p.event, p.number - b)) (market-base w) in rw q) d
 
-  pub not-lined-up : Ready w v n → Place.Nowhere ≡ place_in quiet i w → Does (try_line_up quiet i t) w v n w v n
+  pub not-lined-up : Ready w v n → None ≡ place_in quiet i w → Does (try_line_up quiet i t) w v n w v n
   unfolding try_line_up
   not-lined-up r e = does-as (λ k. k) (try_line_up quiet i t)
-      (λ k m. let q : aligns quiet (conn_at i k.market).line k.market ≡ none =
+      (λ k m. let q : aligns quiet (conn_at i k.market).line k.market ≡ None =
       ap (λ (x : Market). aligns quiet (conn_at i x).line x) m ∙ unplaced (market_of w).log.base (aligns quiet (conn_at i (market_of w)).line (market_of w)) e in rw q)
       (does-none r.sound.sized)
 

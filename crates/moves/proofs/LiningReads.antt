@@ -1,4 +1,5 @@
 -- Where a line lines up, by the words of a store.
+use Rattle.std.specs.Prelude.{None}
 use mathlib.Core.Path.{◌≡◌, refl}
 use mathlib.Core.List.{List}
 use mathlib.Core.Bool.{Bool, true, false}
@@ -14,8 +15,6 @@ use Rattle.rules.specs.Entering.{aligns}
 use Rattle.rules.proofs.Tests.{ff≢tt}
 use Rattle.event_log.specs.declared.Head.{Head}
 use Rattle.event_log.specs.Log.{keys_of}
-use Rattle.place.specs.declared.Place.{Place}
-use Rattle.place.specs.declared.Place.TheVariants as Place
 use Rattle.place.specs.Items.{items_in, place_of, Counted}
 use Rattle.store.specs.Store.{limits_of, head_of, line_count, key_words, market_of, Sound}
 use Rattle.store.specs.ConnMoves.{items_at}
@@ -30,13 +29,13 @@ aligns-pending quiet (Rules.Pending is at since) m p d = rw d
 aligns-pending quiet (Rules.InLine n a b) m p d = absurd (ff≢tt refl p)
 aligns-pending quiet Rules.Failed m p d = absurd (ff≢tt refl p)
 
-pub nowhere-due : (b : ℕ) (quiet : Bool) (l : Rules.Line) (m : Market) → some_due m.lines ≡ true → Place.Nowhere ≡ place_of b (aligns quiet l m)
+pub nowhere-due : (b : ℕ) (quiet : Bool) (l : Rules.Line) (m : Market) → some_due m.lines ≡ true → None ≡ place_of b (aligns quiet l m)
 nowhere-due b quiet (Rules.Waiting is since) m d = refl
 nowhere-due b quiet (Rules.Pending is at since) m d = rw d
 nowhere-due b quiet (Rules.InLine n x y) m d = refl
 nowhere-due b quiet Rules.Failed m d = refl
 
-pub nowhere-other : (b : ℕ) (quiet : Bool) (l : Rules.Line) (m : Market) → is_pending l ≡ false → Place.Nowhere ≡ place_of b (aligns quiet l m)
+pub nowhere-other : (b : ℕ) (quiet : Bool) (l : Rules.Line) (m : Market) → is_pending l ≡ false → None ≡ place_of b (aligns quiet l m)
 nowhere-other b quiet (Rules.Waiting is since) m p = refl
 nowhere-other b quiet (Rules.Pending is at since) m p = absurd (ff≢tt p refl)
 nowhere-other b quiet (Rules.InLine n x y) m p = refl

@@ -7,7 +7,6 @@ use native.Mathlib.Omega.{arith}
 use lib.ListN.{length, drop, length-drop, drop_of_length-le}
 use lib.Seq.{drop-nil}
 use Rattle.rules.specs.declared.Item.{Item}
-use Rattle.rules.specs.declared.Item.TheVariants as Item
 use Rattle.rules.specs.declared.Limits.{Limits}
 use Rattle.rules.specs.Quantities.{Key}
 use Rattle.rules.specs.Lines.{Connection, Market, conn_at, items_of, events}
@@ -40,18 +39,18 @@ module _ {w v : List ℕ} {n : ℕ} (c t skip : ℕ) (item : Item) where
   nothing-pushed z e = does-as (λ k. k) (push_all c t (drop skip (events (item ∷ [])))) (λ k m. push_all-none c t (drop skip (events (item ∷ []))) e k) (does-none z)
 
   pub past-snapshot : {token msg : ℕ} → item ≡ Item.Snapshot token msg → Sized w
-      → Does (push_all c t (drop skip (events (item ∷ [])))) w v n w v n × (skip ≡ skip - length (events (item ∷ [])))
-  past-snapshot e z = (nothing-pushed z (rw e (drop-nil skip)), rw e (omega arith))
+      → Does (push_all c t (drop skip (events (item ∷ [])))) w v n w v n
+  past-snapshot e z = nothing-pushed z (rw e (drop-nil skip))
 
   pub past-event : {key : Key} {msg : ℕ} → item ≡ Item.Event key msg → 0 < skip → Sized w
-      → Does (push_all c t (drop skip (events (item ∷ [])))) w v n w v n × (skip - 1 ≡ skip - length (events (item ∷ [])))
-  past-event {key} {msg} e h z = (nothing-pushed z (rw e (drop_of_length-le ((key, msg) ∷ []) {i = skip} (omega arith))), rw e)
+      → Does (push_all c t (drop skip (events (item ∷ [])))) w v n w v n
+  past-event {key} {msg} e h z = nothing-pushed z (rw e (drop_of_length-le ((key, msg) ∷ []) {i = skip} (omega arith)))
 
   pub push-event : {w₁ v₁ : List ℕ} {n₁ : ℕ} {key : Key} {msg : ℕ} → item ≡ Item.Event key msg → skip ≤ 0 → Does (push_out c t key msg) w v n w₁ v₁ n₁
-      → Does (push_all c t (drop skip (events (item ∷ [])))) w v n w₁ v₁ n₁ × (0 ≡ skip - length (events (item ∷ [])))
+      → Does (push_all c t (drop skip (events (item ∷ [])))) w v n w₁ v₁ n₁
   push-event {key} {msg} e h d =
       let z : skip ≡ 0 = omega arith in
-      (does-as (push_out c t key msg) (push_all c t (drop skip (events (item ∷ [])))) (λ k m. push_all-one c t key msg (drop skip (events (item ∷ []))) (rw (e, z)) k) d, omega arith)
+      does-as (push_out c t key msg) (push_all c t (drop skip (events (item ∷ [])))) (λ k m. push_all-one c t key msg (drop skip (events (item ∷ []))) (rw (e, z)) k) d
 
 -- ---- what pushes leave: k entries and records more
 

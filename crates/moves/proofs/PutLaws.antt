@@ -8,7 +8,6 @@ use lib.ListN.{length, get_or, take, length-take}
 use lib.Seq.{take-suc, take_all}
 use Rattle.rules.specs.declared.Limits.{Limits}
 use Rattle.rules.specs.declared.Item.{Item}
-use Rattle.rules.specs.declared.Item.TheVariants as Item
 use Rattle.rules.specs.Lines.{Connection, Market, conn_at, items_of, events}
 use Rattle.rules.specs.Entering.{Work, begin, put_items}
 use Rattle.rules.proofs.SoundMoves.{put_items-pushed, events-le}

@@ -83,13 +83,10 @@ fn put_items(s: &mut [u64], out: &mut [u64], n: usize, i: usize, t: u64) -> usiz
         s.old out.old n s.new out.new result }
 {
     let conn = store::conns::conn_at(s, i);
-    let held = store::conns::held(s, i);
     let mut m = n;
-    let mut j = 0;
-    while j < held {
+    for j in 0..store::conns::held(s, i) {
         let item = store::conns::item_at(s, i, j);
         m = put_item(s, out, m, conn, t, item);
-        j += 1;
     }
     m
 }
@@ -102,10 +99,9 @@ fn release_print(s: &mut [u64], out: &mut [u64], n: usize, conn: u64, print: Hel
     let key = print.key;
     let found = store::tables::find(s, key, conn);
     let delivered = store::tables::delivered(s, key, conn, found);
-    let place = found.key;
-    let applied = store::tables::applied(s, key, place);
+    let applied = store::tables::applied(s, key, found.key);
     if applied < delivered {
-        store::tables::apply(s, key, delivered, place);
+        store::tables::apply(s, key, delivered, found.key);
         let record = Applied {
             conn,
             kind: Kind::Print,
@@ -126,13 +122,10 @@ fn release_prints(s: &mut [u64], out: &mut [u64], n: usize, i: usize) -> usize
         s.old out.old n s.new out.new result }
 {
     let conn = store::conns::conn_at(s, i);
-    let held = store::conns::prints_held(s, i);
     let mut m = n;
-    let mut j = 0;
-    while j < held {
+    for j in 0..store::conns::prints_held(s, i) {
         let print = store::conns::print_at(s, i, j);
         m = release_print(s, out, m, conn, print);
-        j += 1;
     }
     m
 }

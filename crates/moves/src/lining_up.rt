@@ -47,26 +47,24 @@ fn push_events(s: &mut [u64], out: &mut [u64], n: usize, i: usize, t: u64, skip:
         s.old out.old n s.new out.new result }
 {
     let conn = store::conns::conn_at(s, i);
-    let held = store::conns::held(s, i);
     let mut past = Past { n, skip };
-    let mut j = 0;
-    while j < held {
+    for j in 0..store::conns::held(s, i) {
         let item = store::conns::item_at(s, i, j);
         past = push_past(s, out, past, conn, t, item);
-        j += 1;
     }
     past.n
 }
 
-// The i-th line lines up: its held events from the j-th on are the log's from number p on.
-fn line_up(s: &mut [u64], out: &mut [u64], n: usize, i: usize, t: u64, j: usize, p: u64) -> usize
-    requires { (Ready s.old out.old n) × (AtPlace s.old i j p) }
-    ensures { Does (line_up i t (j, p - (head_of s.old).base)) s.old out.old n s.new out.new result }
+// The i-th line lines up at this place.
+fn line_up(s: &mut [u64], out: &mut [u64], n: usize, i: usize, t: u64, place: Place) -> usize
+    requires { (Ready s.old out.old n) × (AtPlace s.old i place.event place.number) }
+    ensures { Does (line_up i t (place.event, place.number - (head_of s.old).base))
+        s.old out.old n s.new out.new result }
 {
-    let behind = (store::entries::end(s) - p) as usize;
+    let behind = (store::entries::end(s) - place.number) as usize;
     let events = crate::reads::events_held(s, i);
-    let next = p + (events - j) as u64;
-    let m = push_events(s, out, n, i, t, j + behind);
+    let next = place.number + (events - place.event) as u64;
+    let m = push_events(s, out, n, i, t, place.event + behind);
     crate::entering::enter(s, out, m, i, Line::lined_up(next))
 }
 
@@ -75,10 +73,9 @@ pub fn try_align(s: &mut [u64], out: &mut [u64], n: usize, i: usize, t: u64, qui
     requires { (Ready s.old out.old n) × (i < line_count s.old) }
     ensures { Does (try_line_up quiet i t) s.old out.old n s.new out.new result }
 {
-    let place = crate::reads::alignment(s, i, quiet);
-    match place {
-        Place::At(j, p) => line_up(s, out, n, i, t, j, p),
-        Place::Nowhere => n,
+    match crate::reads::alignment(s, i, quiet) {
+        Some(place) => line_up(s, out, n, i, t, place),
+        None => n,
     }
 }
 
@@ -87,12 +84,9 @@ fn round(s: &mut [u64], out: &mut [u64], n: usize, t: u64) -> usize
     requires { Ready s.old out.old n }
     ensures { Does (round (line_count s.old) 0 t) s.old out.old n s.new out.new result }
 {
-    let lines = store::conns::count(s);
     let mut m = n;
-    let mut i = 0;
-    while i < lines {
+    for i in 0..store::conns::count(s) {
         m = try_align(s, out, m, i, t, false);
-        i += 1;
     }
     m
 }
@@ -104,6 +98,7 @@ pub fn align_pending(s: &mut [u64], out: &mut [u64], n: usize, t: u64) -> usize
 {
     let mut m = n;
     let mut pending = store::conns::pendings(s);
+    // As many rounds as line somebody up: a `for` does not say it plainer.
     while 0 < pending {
         m = round(s, out, m, t);
         let left = store::conns::pendings(s);

@@ -18,20 +18,23 @@ pub fn events_held(s: &[u64], i: usize) -> usize
 }
 
 // Where the i-th line lines up, while no line is due a snapshot.
-pub fn alignment(s: &[u64], i: usize, quiet: bool) -> Place
+pub fn alignment(s: &[u64], i: usize, quiet: bool) -> Option<Place>
     requires { (Sound s.now) × (i < line_count s.now) }
     ensures { result ≡ place_of (market_of s.now).log.base
         (aligns quiet (conn_at i (market_of s.now)).line (market_of s.now)) }
 {
-    if store::conns::line_at(s, i).pending() {
-        if store::conns::some_due(s) {
-            return Place::Nowhere;
-        }
-        let g = store::entries::limits(s).G as usize;
-        let head = store::entries::head(s);
-        let n = store::conns::held(s, i);
-        let keys = store::entries::keys(s);
-        return place::alignment(keys, g, head, store::conns::items(s, i), n, quiet);
+    if !store::conns::line_at(s, i).pending() || store::conns::some_due(s) {
+        return None;
     }
-    Place::Nowhere
+    let g = store::entries::limits(s).G as usize;
+    let head = store::entries::head(s);
+    let n = store::conns::held(s, i);
+    place::alignment(
+        store::entries::keys(s),
+        g,
+        head,
+        store::conns::items(s, i),
+        n,
+        quiet,
+    )
 }

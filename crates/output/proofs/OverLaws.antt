@@ -7,9 +7,8 @@ use lib.ListN.{length, take, drop, length-append}
 use lib.Seq.{length-take-le, drop-drop, take-append_seam, drop-append_seam}
 use Rattle.rules.specs.declared.Applied.{Applied}
 use Rattle.rules.specs.declared.Expired.{Expired}
-use Rattle.rules.specs.declared.Expired.TheVariants as Expired
 use Rattle.words.specs.Words.{back}
-use Rattle.output.specs.Output.{record_words, records_words, report_words, reports_words, over, over_at}
+use Rattle.output.specs.Output.{record_words, records_words, report_words, reports_words, over_at}
 
 -- a part of n words that came back as zs
 pub back-over : (a n : ℕ) (ys zs w : List ℕ) → ys ≡ zs → length zs ≡ n → back a (a + n) ys w ≡ over_at a zs w

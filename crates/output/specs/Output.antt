@@ -1,10 +1,8 @@
 -- Put-out records and tick reports as words of a lent list.
 use Rattle.std.specs.Prelude.{List, [], ◌∷◌, ◌++◌, ℕ, zero, suc, get_or, take, drop}
 use Rattle.rules.specs.declared.Kind.{Kind}
-use Rattle.rules.specs.declared.Kind.TheVariants as Kind
 use Rattle.rules.specs.declared.Applied.{Applied}
 use Rattle.rules.specs.declared.Expired.{Expired}
-use Rattle.rules.specs.declared.Expired.TheVariants as Expired
 use Rattle.rules.specs.Quantities.{key}
 pub use Rattle.words.specs.Words.{over}
 

@@ -29,10 +29,7 @@ pub extern "C" fn owned_subscribe(
     ensures { Telling (λ a. Tells a result count.new 0)
         (λ a. Steps (Subscribe conn limit t) (alone s.old) a (alone s.new)) }
 {
-    let a = steps::subscribe(s, conn, limit, t);
-    let told = codes::of_changed(a);
-    *count = told.count;
-    told.code
+    codes::of_changed(steps::subscribe(s, conn, limit, t)).tell(count)
 }
 
 #[unsafe(no_mangle)]
@@ -50,10 +47,7 @@ pub extern "C" fn owned_snapshot(
         (λ a. Steps (Snapshot conn token message t (records out.old))
         (lent s.old out.old) a (lent s.new out.new)) }
 {
-    let a = steps::snapshot(s, out, conn, token, message, t);
-    let told = codes::of_step(a);
-    *count = told.count;
-    told.code
+    codes::of_step(steps::snapshot(s, out, conn, token, message, t)).tell(count)
 }
 
 #[unsafe(no_mangle)]
@@ -72,11 +66,7 @@ pub extern "C" fn owned_book_event(
         (λ a. Steps (BookEvent conn (key key0 key1) message t (records out.old))
         (lent s.old out.old) a (lent s.new out.new)) }
 {
-    let key = EventKey(key0, key1);
-    let a = steps::book_event(s, out, conn, key, message, t);
-    let told = codes::of_step(a);
-    *count = told.count;
-    told.code
+    codes::of_step(steps::book_event(s, out, conn, EventKey(key0, key1), message, t)).tell(count)
 }
 
 #[unsafe(no_mangle)]
@@ -95,11 +85,7 @@ pub extern "C" fn owned_print(
         (λ a. Steps (Print conn (key key0 key1) message t (records out.old))
         (lent s.old out.old) a (lent s.new out.new)) }
 {
-    let key = EventKey(key0, key1);
-    let a = steps::other(s, out, conn, key, message, t);
-    let told = codes::of_step(a);
-    *count = told.count;
-    told.code
+    codes::of_step(steps::other(s, out, conn, EventKey(key0, key1), message, t)).tell(count)
 }
 
 #[unsafe(no_mangle)]
@@ -115,10 +101,7 @@ pub extern "C" fn owned_drop(
         (λ a. Steps (Drop conn t (records out.old))
         (lent s.old out.old) a (lent s.new out.new)) }
 {
-    let a = steps::drop_conn(s, out, conn, t);
-    let told = codes::of_lost(a);
-    *count = told.count;
-    told.code
+    codes::of_lost(steps::drop_conn(s, out, conn, t)).tell(count)
 }
 
 #[unsafe(no_mangle)]
@@ -128,10 +111,7 @@ pub extern "C" fn owned_promote(s: &mut [u64], out: &mut [u64], t: u64, count: &
         (λ a. Steps (Promote t (records out.old))
         (lent s.old out.old) a (lent s.new out.new)) }
 {
-    let a = steps::promote(s, out, t);
-    let told = codes::of_lost(a);
-    *count = told.count;
-    told.code
+    codes::of_lost(steps::promote(s, out, t)).tell(count)
 }
 
 #[unsafe(no_mangle)]
@@ -140,10 +120,7 @@ pub extern "C" fn owned_reset(s: &mut [u64], t: u64, count: &mut u64) -> u64
     ensures { Telling (λ a. Tells a result count.new 0)
         (λ a. Steps (Reset t) (alone s.old) a (alone s.new)) }
 {
-    let a = steps::reset(s, t);
-    let told = codes::of_changed(a);
-    *count = told.count;
-    told.code
+    codes::of_changed(steps::reset(s, t)).tell(count)
 }
 
 #[unsafe(no_mangle)]
@@ -162,11 +139,9 @@ pub extern "C" fn owned_tick(
         (lent_all s.old out.old reports.old)
         a (lent_all s.new out.new reports.new)) }
 {
-    let a = steps::tick(s, out, reports, answers, t);
-    let told = codes::of_ticked(a);
-    *count = told.count;
+    let told = codes::of_ticked(steps::tick(s, out, reports, answers, t));
     *reported = told.reports;
-    told.code
+    told.tell(count)
 }
 
 #[unsafe(no_mangle)]
@@ -186,8 +161,7 @@ pub extern "C" fn owned_batch(
         (lists s.old out.old reports.old answers.old)
         a (lists s.new out.new reports.new answers.new)) }
 {
-    let a = batch::run(s, out, reports, answers, calls);
-    let told = batch::of_batched(a);
+    let told = batch::of_batched(Ok(batch::run(s, out, reports, answers, calls)));
     *done = told.calls;
     *count = told.records;
     *reported = told.reports;

@@ -1,7 +1,7 @@
 -- Laws of fits, of the places that are left, and of which of them count, over lists of keys alone.
+use Rattle.std.specs.Prelude.{Option, None, Some}
 use mathlib.Core.Path.{◌≡◌, refl, ap, sym, ◌∙◌}
 use mathlib.Core.List.{List, [], ◌∷◌, ◌++◌, map}
-use mathlib.Core.Option.{Option, none, some}
 use mathlib.Core.Bool.{Bool, true, false, ◌&&◌, ◌||◌}
 use Prim.Native.Nat.{ℕ, suc, ◌+◌, ◌-◌, ◌≤◌, ◌<◌}
 use native.Mathlib.Nat.{sub-zero, zero-add}
@@ -32,30 +32,30 @@ module _ (a b : Key) where
 
 -- m more matches, where nothing differs
 abbrev pub more : ℕ → Option ℕ → Option ℕ
-more m o = maybe none (λ n. some (m + n)) o
+more m o = maybe None (λ n. Some (m + n)) o
 
 pub more-none : (o : Option ℕ) → more 0 o ≡ o
-more-none none = refl
-more-none (some n) = rw zero-add
+more-none None = refl
+more-none (Some n) = rw zero-add
 
-one_more : (m : ℕ) (o : Option ℕ) → more m (maybe none (λ n. some (suc n)) o) ≡ more (m + 1) o
-one_more m none = refl
-one_more m (some n) = let e : m + suc n ≡ (m + 1) + n = omega arith in ap some e
+one_more : (m : ℕ) (o : Option ℕ) → more m (maybe None (λ n. Some (suc n)) o) ≡ more (m + 1) o
+one_more m None = refl
+one_more m (Some n) = let e : m + suc n ≡ (m + 1) + n = omega arith in ap Some e
 
 module _ (x y : Key) (xs ys : List Key) where
   pub fits-same : (m : ℕ) → same x y ≡ true → more m (fits (x ∷ xs) (y ∷ ys)) ≡ more (m + 1) (fits xs ys)
   unfolding fits
   fits-same m e = rw e (one_more m (fits xs ys))
 
-  pub fits-differ : same x y ≡ false → fits (x ∷ xs) (y ∷ ys) ≡ none
+  pub fits-differ : same x y ≡ false → fits (x ∷ xs) (y ∷ ys) ≡ None
   unfolding fits
   fits-differ e = rw e
 
-pub fits-nil : (ys : List Key) → fits [] ys ≡ some 0
+pub fits-nil : (ys : List Key) → fits [] ys ≡ Some 0
 unfolding fits
 fits-nil ys = refl
 
-pub fits-log-end : (xs : List Key) → fits xs [] ≡ some 0
+pub fits-log-end : (xs : List Key) → fits xs [] ≡ Some 0
 unfolding fits
 fits-log-end [] = refl
 fits-log-end (x ∷ xs) = refl
@@ -65,11 +65,11 @@ abbrev pub enough : Bool → ℕ → Bool → Bool → Bool
 enough quiet n end all = leb align_run n || quiet && end && all
 
 module _ (quiet : Bool) (hs ks : List Key) (p : Place) where
-  pub counts-none : fits (drop p.0 hs) (drop p.1 ks) ≡ none → counts quiet hs ks p ≡ false
+  pub counts-none : fits (drop p.0 hs) (drop p.1 ks) ≡ None → counts quiet hs ks p ≡ false
   unfolding counts
   counts-none e = rw e
 
-  pub counts_some : (n : ℕ) → fits (drop p.0 hs) (drop p.1 ks) ≡ some n
+  pub counts_some : (n : ℕ) → fits (drop p.0 hs) (drop p.1 ks) ≡ Some n
       → counts quiet hs ks p ≡ enough quiet n (eqb (p.1 + n) (length ks)) (eqb (p.0 + n) (length hs))
   unfolding counts
   counts_some n e = rw e
@@ -97,25 +97,25 @@ module _ (h k q j : ℕ) where
 
 -- the place that counted so far
 abbrev pub seen : Option Place → List Place
-seen none = []
-seen (some p) = p ∷ []
+seen None = []
+seen (Some p) = p ∷ []
 
 -- the answer, where the search ends, and where a second place counts
 module _ (quiet : Bool) (hs ks : List Key) where
   pub all_seen : (o : Option Place) → nil hs ≡ false → nil ks ≡ false → keep (counts quiet hs ks) (places hs ks) ≡ seen o ++ [] → alignment quiet hs ks ≡ o
   unfolding alignment
-  all_seen none h k all = rw (h, k, all)
-  all_seen (some p) h k all = rw (h, k, all)
+  all_seen None h k all = rw (h, k, all)
+  all_seen (Some p) h k all = rw (h, k, all)
 
-  pub two-seen : (p b : Place) (r : List Place) → keep (counts quiet hs ks) (places hs ks) ≡ p ∷ b ∷ r → alignment quiet hs ks ≡ none
+  pub two-seen : (p b : Place) (r : List Place) → keep (counts quiet hs ks) (places hs ks) ≡ p ∷ b ∷ r → alignment quiet hs ks ≡ None
   unfolding alignment
-  two-seen p b r all = by_cond (λ o. o ≡ none) (nil hs || nil ks) (λ t. refl) (λ t. rw all)
+  two-seen p b r all = by_cond (λ o. o ≡ None) (nil hs || nil ks) (λ t. refl) (λ t. rw all)
 
-pub none-held : (quiet : Bool) (ks : List Key) → alignment quiet [] ks ≡ none
+pub none-held : (quiet : Bool) (ks : List Key) → alignment quiet [] ks ≡ None
 unfolding alignment
 none-held quiet ks = refl
 
-pub none-logged : (quiet : Bool) (hs : List Key) → alignment quiet hs [] ≡ none
+pub none-logged : (quiet : Bool) (hs : List Key) → alignment quiet hs [] ≡ None
 unfolding alignment
 none-logged quiet [] = refl
 none-logged quiet (h ∷ hs) = refl

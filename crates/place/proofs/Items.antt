@@ -6,7 +6,6 @@ use native.Mathlib.Numerals.{add-one}
 use native.Mathlib.Omega.{arith}
 use lib.ListN.{length, get_or, set, drop, drop_of_length-le, length-map}
 use Rattle.rules.specs.declared.Item.{Item}
-use Rattle.rules.specs.declared.Item.TheVariants as Item
 use Rattle.rules.specs.Lists.{Each}
 use Rattle.rules.specs.Quantities.{key}
 use Rattle.rules.specs.Lines.{events, message_of}

@@ -10,7 +10,6 @@ use lib.Dec.{ltb}
 use lib.Seq.{drop-drop}
 use borrow.Author.Tests.{lt-ltb, le-ltb}
 use Rattle.rules.specs.declared.Item.{Item}
-use Rattle.rules.specs.declared.Item.TheVariants as Item
 use Rattle.rules.specs.Quantities.{Key, key}
 use Rattle.rules.specs.Lists.{any, index, nil}
 use Rattle.rules.specs.Lines.{events, event_keys}

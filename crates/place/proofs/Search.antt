@@ -1,8 +1,8 @@
 -- The two loops of `one_place`, over the log's keys by their entries and the items' words.
 -- What each has come to, as a record, and a law for each way through a turn.
+use Rattle.std.specs.Prelude.{Option, None, Some, is_some}
 use mathlib.Core.Path.{◌≡◌, refl, sym, ap, ◌∙◌}
 use mathlib.Core.List.{List, [], ◌∷◌, ◌++◌, map}
-use mathlib.Core.Option.{Option, none, some}
 use mathlib.Core.Logic.{⊎_elim}
 use mathlib.Core.Bool.{Bool, true, false, cond}
 use Prim.Native.Nat.{ℕ, zero, suc, ◌+◌, ◌*◌, ◌-◌, ◌≤◌, ◌<◌}
@@ -19,7 +19,6 @@ use Rattle.words.specs.Words.{tab}
 use Rattle.words.proofs.Tab.{length-tab, drop-tab-cons}
 use Rattle.words.proofs.Cases.{below_or}
 use Rattle.place.specs.declared.Place.{Place}
-use Rattle.place.specs.declared.Place.TheVariants as Place
 use Rattle.place.specs.Items.{place_of, Passed}
 use Rattle.place.proofs.Next.{Stop, Next, held_from, item_key, held-event, held-end}
 use Rattle.place.proofs.Counting as find
@@ -56,7 +55,7 @@ abbrev pub left-places : List ℕ → ℕ → ℕ → ℕ → ℕ → List (ℕ 
 left-places items held count q j = left (length (held_from items held 0)) count q j
 
 -- the outer loop: `found` is the place that counted so far
-pub record Search (quiet : Bool) (keys : ℕ → Key) (count base : ℕ) (items : List ℕ) (held first : ℕ) (found : Place) (q x j : ℕ) : Type 0 where
+pub record Search (quiet : Bool) (keys : ℕ → Key) (count base : ℕ) (items : List ℕ) (held first : ℕ) (found : Option Place) (q x j : ℕ) : Type 0 where
   pub ahead : Ahead items count held first q x j
   pub one : Option (ℕ × ℕ)
   pub is : found ≡ place_of base one
@@ -64,7 +63,7 @@ pub record Search (quiet : Bool) (keys : ℕ → Key) (count base : ℕ) (items 
       ≡ seen one ++ counting quiet keys count items held (left-places items held count q j)
 
 -- the inner loop: the candidate is (cj, start), and the walk has come to item i and entry l
-pub record Walk (quiet : Bool) (keys : ℕ → Key) (count base : ℕ) (items : List ℕ) (held first : ℕ) (found : Place) (q x j cj start i l : ℕ) : Type 0 where
+pub record Walk (quiet : Bool) (keys : ℕ → Key) (count base : ℕ) (items : List ℕ) (held first : ℕ) (found : Option Place) (q x j cj start i l : ℕ) : Type 0 where
   pub ahead : Ahead items count held first q x j
   pub one : Option (ℕ × ℕ)
   pub is : found ≡ place_of base one
@@ -96,7 +95,7 @@ module _ (quiet : Bool) (keys : ℕ → Key) (count : ℕ) (items : List ℕ) (h
       let hs : held_from items held 0 ≡ item_key items first ∷ held_from items held (first + 1) =
       ap (map (λ e. e.0)) n.rest ∙ held-event items held first h n.stop
       in
-      let z : fits (held_from items held 0) (log_from keys count e) ≡ none =
+      let z : fits (held_from items held 0) (log_from keys count e) ≡ None =
       rw (hs, log-step keys count e l) (find.fits-differ _ _ _ _ (find.differ-0 (item_key items first) (keys e) (λ p. d (sym p))))
       in find.counts-none quiet (held_from items held 0) (tab count keys) (0, e) z
 
@@ -118,12 +117,12 @@ module _ (quiet : Bool) (keys : ℕ → Key) (count : ℕ) (items : List ℕ) (h
   ahead_of r i a =
       record { head = a.head; head_in = a.head_in; q-in = i; x-in = a.x-in; j-in = a.j-in; stop = a.stop; rest = a.rest }
 
-  pub pass : {base : ℕ} {found : Place} {q x j r : ℕ} → Search quiet keys count base items held first found q x j → Passed (λ e. (keys e).0) count (first_word items first) q r
+  pub pass : {base : ℕ} {found : Option Place} {q x j r : ℕ} → Search quiet keys count base items held first found q x j → Passed (λ e. (keys e).0) count (first_word items first) q r
       → Search quiet keys count base items held first found r x j
   pass {q = q} {j = j} {r = r} s p =
       record { ahead = ahead_of r p.inside s.ahead; one = s.one; is = s.is; all = s.all ∙ ap (λ z. seen s.one ++ z) (passed j q r p) }
 
-  pub pass-walk : {base : ℕ} {found : Place} {q x j cj start i l r : ℕ} → Walk quiet keys count base items held first found q x j cj start i l
+  pub pass-walk : {base : ℕ} {found : Option Place} {q x j cj start i l r : ℕ} → Walk quiet keys count base items held first found q x j cj start i l
       → Passed (λ e. (keys e).0) count (first_word items first) q r → Walk quiet keys count base items held first found r x j cj start i l
   pass-walk {q = q} {j = j} {cj = cj} {start = start} {r = r} w p =
       record {
@@ -141,7 +140,7 @@ module _ (quiet : Bool) (keys : ℕ → Key) (count : ℕ) (items : List ℕ) (h
 
 pub search-start : (quiet : Bool) (keys : ℕ → Key) (count base : ℕ) (items : List ℕ) (held first x : ℕ)
     → first < held → Next items held 0 first → Next items held (first + 1) x
-    → Search quiet keys count base items held first Place.Nowhere 0 x 1
+    → Search quiet keys count base items held first None 0 x 1
 search-start quiet keys count base items held first x h f n =
     record {
       ahead = record {
@@ -153,12 +152,12 @@ search-start quiet keys count base items held first x h f n =
         stop = n.stop;
         rest = after items held 0 first (ap (map (λ e. e.0)) f.rest) x h f.stop n;
       };
-      one = none;
+      one = None;
       is = refl;
       all = rw (find.left-all (held_from items held 0) (tab count keys), length-tab count keys);
     }
 
-module _ {quiet : Bool} {keys : ℕ → Key} {count base : ℕ} {items : List ℕ} {held first : ℕ} {found : Place} {q x j : ℕ}
+module _ {quiet : Bool} {keys : ℕ → Key} {count base : ℕ} {items : List ℕ} {held first : ℕ} {found : Option Place} {q x j : ℕ}
     (s : Search quiet keys count base items held first found q x j) where
   -- the candidates are all tried
   pub out : count ≤ q → held ≤ x → counting quiet keys count items held (all-places keys count items held) ≡ seen s.one ++ []
@@ -218,7 +217,7 @@ module _ {quiet : Bool} {keys : ℕ → Key} {count base : ℕ} {items : List �
         long = omega arith;
       }
 
-module _ {quiet : Bool} {keys : ℕ → Key} {count base : ℕ} {items : List ℕ} {held first : ℕ} {found : Place} {q x j cj start i l : ℕ}
+module _ {quiet : Bool} {keys : ℕ → Key} {count base : ℕ} {items : List ℕ} {held first : ℕ} {found : Option Place} {q x j cj start i l : ℕ}
     (w : Walk quiet keys count base items held first found q x j cj start i l) where
   -- one held event further, to item y
   pub along : (y : ℕ) → i < held → l < count → same (keys l) (item_key items i) ≡ true
@@ -251,33 +250,33 @@ module _ {quiet : Bool} {keys : ℕ → Key} {count base : ℕ} {items : List �
   pub off : Counts false → Search quiet keys count base items held first found q x j
   off e = record { ahead = w.ahead; one = w.one; is = w.is; all = rw e at w.all }
 
-  pub on : Counts true → found ≡ Place.Nowhere → Search quiet keys count base items held first (Place.At cj (base + start)) q x j
-  on e z = record { ahead = w.ahead; one = some (cj, start); is = refl; all = rw (e, nothing w.one (sym w.is ∙ z)) at w.all }
+  pub on : Counts true → is_some found ≡ false → Search quiet keys count base items held first (Some (record { event = cj; number = base + start })) q x j
+  on e z = record { ahead = w.ahead; one = Some (cj, start); is = refl; all = rw (e, nothing w.one (sym (ap is_some w.is) ∙ z)) at w.all }
     where
-      nothing : (o : Option (ℕ × ℕ)) → place_of base o ≡ Place.Nowhere → o ≡ none
-      nothing none q = refl
-      nothing (some p) q = absurd (let z : ◌≡◌ {A = ℕ} 0 1 = cc in omega arith)
+      nothing : (o : Option (ℕ × ℕ)) → is_some (place_of base o) ≡ false → o ≡ None
+      nothing None q = refl
+      nothing (Some p) q = absurd (cc)
 
-  pub twice : {b n : ℕ} → Counts true → found ≡ Place.At b n → alignment quiet (held_from items held 0) (tab count keys) ≡ none
-  twice {b} {n} e z = go w.one (sym w.is ∙ z) (rw e at w.all)
+  pub twice : Counts true → is_some found ≡ true → alignment quiet (held_from items held 0) (tab count keys) ≡ None
+  twice e z = go w.one (sym (ap is_some w.is) ∙ z) (rw e at w.all)
     where
-      go : (o : Option (ℕ × ℕ)) → place_of base o ≡ Place.At b n
+      go : (o : Option (ℕ × ℕ)) → is_some (place_of base o) ≡ true
           → counting quiet keys count items held (all-places keys count items held)
           ≡ seen o ++ (cj, start) ∷ counting quiet keys count items held (left-places items held count q j)
-          → alignment quiet (held_from items held 0) (tab count keys) ≡ none
-      go none q all = absurd (let z : ◌≡◌ {A = ℕ} 0 1 = cc in omega arith)
-      go (some p) q all = find.two-seen _ _ _ _ _ _ all
+          → alignment quiet (held_from items held 0) (tab count keys) ≡ None
+      go None q all = absurd (cc)
+      go (Some r) q all = find.two-seen _ _ _ _ _ _ all
 
   -- a mismatch
   pub differ : i < held → l < count → same (keys l) (item_key items i) ≡ false → Counts false
   differ h g d =
-      let z : fits (held_from items held i) (log_from keys count l) ≡ none =
+      let z : fits (held_from items held i) (log_from keys count l) ≡ None =
       rw (held-event items held i h w.stop, log-step keys count l g) (find.fits-differ _ _ _ _ (find.same-turned (item_key items i) (keys l) ∙ d))
       in find.counts-none _ _ _ _ (w.same ∙ ap (more (l - start)) z)
 
   -- the walk ends after so many matches, at the items' end or at the log's
   abbrev pub Ended : Type 0
-  Ended = fits (drop cj (held_from items held 0)) (log_from keys count start) ≡ some (l - start)
+  Ended = fits (drop cj (held_from items held 0)) (log_from keys count start) ≡ Some (l - start)
 
   pub end-items : held ≤ i → Ended
   end-items h = w.same ∙ rw (held-end items held i h, find.fits-nil _, add-zero)
@@ -304,7 +303,7 @@ module _ {quiet : Bool} {keys : ℕ → Key} {count base : ℕ} {items : List �
       in find.counts_some quiet (held_from items held 0) (tab count keys) (cj, start) (l - start) e ∙ rw (u, length-tab count keys, all)
 
 -- item x at entry 0, whose key has another first word
-pub skip : {quiet : Bool} {keys : ℕ → Key} {count base : ℕ} {items : List ℕ} {held first : ℕ} {found : Place} {q x j : ℕ} (y : ℕ)
+pub skip : {quiet : Bool} {keys : ℕ → Key} {count base : ℕ} {items : List ℕ} {held first : ℕ} {found : Option Place} {q x j : ℕ} (y : ℕ)
     → Search quiet keys count base items held first found q x j → 0 < count → count ≤ q → x < held → Next items held (x + 1) y
     → (get_or items (4 * x + 1) 0 ≡ (keys 0).0 → ⊥) → Search quiet keys count base items held first found q y (j + 1)
 skip {keys = keys} {items = items} {x = x} y s g h k n d =
@@ -312,13 +311,13 @@ skip {keys = keys} {items = items} {x = x} y s g h k n d =
 
 -- the answers
 module _ (quiet : Bool) (keys : ℕ → Key) (count : ℕ) (items : List ℕ) (held : ℕ) where
-  pub no-log : count ≡ 0 → alignment quiet (held_from items held 0) (tab count keys) ≡ none
+  pub no-log : count ≡ 0 → alignment quiet (held_from items held 0) (tab count keys) ≡ None
   no-log e = rw e (find.none-logged quiet (held_from items held 0))
 
-  pub no-held : (first : ℕ) → held ≤ first → Next items held 0 first → alignment quiet (held_from items held 0) (tab count keys) ≡ none
+  pub no-held : (first : ℕ) → held ≤ first → Next items held 0 first → alignment quiet (held_from items held 0) (tab count keys) ≡ None
   no-held first h n = rw (ap (map (λ e. e.0)) n.rest ∙ held-end items held first h) (find.none-held quiet (tab count keys))
 
-pub search-end : {quiet : Bool} {keys : ℕ → Key} {count base : ℕ} {items : List ℕ} {held first : ℕ} {found : Place} {q x j : ℕ}
+pub search-end : {quiet : Bool} {keys : ℕ → Key} {count base : ℕ} {items : List ℕ} {held first : ℕ} {found : Option Place} {q x j : ℕ}
     → Search quiet keys count base items held first found q x j → 0 < count → count ≤ q → held ≤ x
     → found ≡ place_of base (alignment quiet (held_from items held 0) (tab count keys))
 search-end {quiet} {keys} {count} {base} {items} {held} {first} s g h k =

@@ -1,15 +1,12 @@
 -- The reading of a line's held items: four words each, kind, key, key, message.
-use Rattle.std.specs.Prelude.{◌≡◌, List, Bool, not, ℕ, zero, suc, ◌+◌, ◌*◌, ◌^◌, ◌≤◌, ◌<◌, length, get_or}
-use Rattle.std.proofs.Math.Option.{Option, none, some}
+use Rattle.std.specs.Prelude.{Option, None, Some, ◌≡◌, List, Bool, not, ℕ, zero, suc, ◌+◌, ◌*◌, ◌^◌, ◌≤◌, ◌<◌, length, get_or}
 use Rattle.rules.specs.declared.Item.{Item}
-use Rattle.rules.specs.declared.Item.TheVariants as Item
 use Rattle.rules.specs.Quantities.{key}
 use Rattle.rules.specs.Lines.{is_snapshot}
 use Rattle.words.specs.Words.{tab}
 use Rattle.event_log.specs.Log.{entry_place, Ring}
 use Rattle.event_log.specs.declared.Head.{Head}
 use Rattle.place.specs.declared.Place.{Place}
-use Rattle.place.specs.declared.Place.TheVariants as Place
 
 -- kind 0 is an event, t + 1 a snapshot of token t, whose key words mean nothing
 abbrev pub item_of : ℕ → ℕ → ℕ → ℕ → Item
@@ -38,9 +35,9 @@ pub record Room (w : List ℕ) (i : ℕ) (item : Item) : Type 0 where
   pub kind : kind_of item < 2 ^ 64
 
 -- (j, i) among the log's entries is the number base + i
-abbrev pub place_of : ℕ → Option (ℕ × ℕ) → Place
-place_of base none = Place.Nowhere
-place_of base (some p) = Place.At p.0 (base + p.1)
+abbrev pub place_of : ℕ → Option (ℕ × ℕ) → Option Place
+place_of base None = None
+place_of base (Some p) = Some (record { event = p.0; number = base + p.1 })
 
 -- the words hold the log's keys and the items that are counted, and the log's numbers fit a word
 pub record Counted (g : ℕ) (head : Head) (keys items : List ℕ) (held : ℕ) : Type 0 where

@@ -10,7 +10,8 @@ ghost use Rattle.words.specs.Words.{over};
 ghost use Rattle.event_log.specs.Log.{keys_of, Ring};
 ghost use Rattle.place.specs.Items.{item_in, items_in, is_event, place_of, Room, Counted, first_at, first_of, Passed};
 
-use event_log::{Head, Matched};
+use event_log::Head;
+use log_borrowed::view::LogView;
 use rules::{EventKey, Item};
 
 // The kind word of an event; a snapshot's is one more than its token.
@@ -18,11 +19,11 @@ const EVENT: u64 = 0;
 // Held events that match the log this many in a row make a place count.
 const ALIGN_RUN: usize = 4;
 
-#[derive(Clone, Copy)]
-pub enum Place {
-    // The held events from the j-th on are the log's from this number on.
-    At(usize, u64),
-    Nowhere,
+// The held events from this one on are the log's from this number on.
+#[derive(Clone, Copy, Debug, PartialEq, Eq)]
+pub struct Place {
+    pub event: usize,
+    pub number: u64,
 }
 
 // The i-th held item.
@@ -30,11 +31,11 @@ pub fn item_at(items: &[u64], i: usize) -> Item
     requires { 4 * i + 4 ≤ length items.now }
     ensures { result ≡ item_in items.now i }
 {
-    let a = 4 * i;
-    let kind = items[a];
-    let message = items[a + 3];
+    let at = 4 * i;
+    let kind = items[at];
+    let message = items[at + 3];
     if kind == EVENT {
-        Item::Event(EventKey(items[a + 1], items[a + 2]), message)
+        Item::Event(EventKey(items[at + 1], items[at + 2]), message)
     } else {
         Item::Snapshot(kind - 1, message)
     }
@@ -45,28 +46,22 @@ pub fn put_item(items: &mut [u64], i: usize, item: Item)
     requires { Room items.old i item }
     ensures { items_in (i + 1) items.new ≡ items_in i items.old ++ (item ∷ []) }
 {
-    let a = 4 * i;
-    let e = a + 4;
-    match item {
-        Item::Snapshot(token, message) => {
-            words::put4(&mut items[a..e], token + 1, 0, 0, message);
-        }
-        Item::Event(key, message) => {
-            words::put4(&mut items[a..e], EVENT, key.0, key.1, message);
-        }
-    }
+    let at = 4 * i;
+    let row = match item {
+        Item::Snapshot(token, message) => [token + 1, 0, 0, message],
+        Item::Event(key, message) => [EVENT, key.0, key.1, message],
+    };
+    items[at..at + 4].copy_from_slice(&row);
 }
 
-// The first item from `from` on that is an event; held where there is none.
+// The first item from `from` on that is an event; held where there is none, which is where a walk along the items ends.
+// Counted by hand for speed: with a `for` one_place takes up to 8 % more instructions over a long match.
 fn next_event(items: &[u64], held: usize, from: usize) -> usize
     requires { (4 * held ≤ length items.now) × (from ≤ held) }
     ensures { result ≡ from + index is_event (drop from (items_in held items.now)) }
 {
     let mut i = from;
-    while i < held {
-        if items[4 * i] == EVENT {
-            return i;
-        }
+    while i < held && items[4 * i] != EVENT {
         i += 1;
     }
     i
@@ -86,12 +81,10 @@ pub fn count_events(items: &[u64], n: usize) -> usize
     ensures { result ≡ length (events (items_in n items.now)) }
 {
     let mut count = 0;
-    let mut i = 0;
-    while i < n {
+    for i in 0..n {
         if items[4 * i] == EVENT {
             count += 1;
         }
-        i += 1;
     }
     count
 }
@@ -101,10 +94,8 @@ pub fn put_messages(items: &[u64], n: usize, list: &mut [u64])
     requires { (4 * n ≤ length items.now) × (n ≤ length list.old) }
     ensures { list.new ≡ over (map message_of (items_in n items.now)) list.old }
 {
-    let mut i = 0;
-    while i < n {
+    for i in 0..n {
         list[i] = items[4 * i + 3];
-        i += 1;
     }
 }
 
@@ -113,12 +104,10 @@ pub fn holds_snapshot(items: &[u64], held: usize) -> bool
     requires { 4 * held ≤ length items.now }
     ensures { result ≡ any is_snapshot (items_in held items.now) }
 {
-    let mut i = 0;
-    while i < held {
+    for i in 0..held {
         if items[4 * i] != EVENT {
             return true;
         }
-        i += 1;
     }
     false
 }
@@ -128,21 +117,16 @@ pub fn holds_token(items: &[u64], held: usize, t: u64) -> bool
     requires { 4 * held ≤ length items.now }
     ensures { result ≡ any (snapshot_of t) (items_in held items.now) }
 {
-    let mut i = 0;
-    while i < held {
-        if let Item::Snapshot(token, _) = item_at(items, i) {
-            if token == t {
-                return true;
-            }
-            i += 1;
-        } else {
-            i += 1;
+    for i in 0..held {
+        if matches!(item_at(items, i), Item::Snapshot(token, _) if token == t) {
+            return true;
         }
     }
     false
 }
 
 // Passes over entries, eight at a time, while no key among them has the first word k.
+// By hand for speed: one test of the count for eight entries keeps the search of a long log fast (docs/SPEED.md); a `for` makes one for each.
 fn pass_eights(keys: &[u64], count: usize, from: usize, k: u64) -> usize
     requires { (2 * count ≤ length keys.now) × (from ≤ count) }
     ensures { Passed (first_at keys.now) count k from result }
@@ -150,28 +134,15 @@ fn pass_eights(keys: &[u64], count: usize, from: usize, k: u64) -> usize
     let mut i = from;
     while 8 <= count - i {
         let p = 2 * i;
-        if keys[p] == k {
-            return i;
-        }
-        if keys[p + 2] == k {
-            return i;
-        }
-        if keys[p + 4] == k {
-            return i;
-        }
-        if keys[p + 6] == k {
-            return i;
-        }
-        if keys[p + 8] == k {
-            return i;
-        }
-        if keys[p + 10] == k {
-            return i;
-        }
-        if keys[p + 12] == k {
-            return i;
-        }
-        if keys[p + 14] == k {
+        if keys[p] == k
+            || keys[p + 2] == k
+            || keys[p + 4] == k
+            || keys[p + 6] == k
+            || keys[p + 8] == k
+            || keys[p + 10] == k
+            || keys[p + 12] == k
+            || keys[p + 14] == k
+        {
             return i;
         }
         i += 8;
@@ -184,14 +155,12 @@ fn next_key(keys: &[u64], count: usize, from: usize, k: u64) -> usize
     requires { (2 * count ≤ length keys.now) × (from ≤ count) }
     ensures { Passed (first_at keys.now) count k from result }
 {
-    let mut i = pass_eights(keys, count, from, k);
-    while i < count {
+    for i in pass_eights(keys, count, from, k)..count {
         if keys[2 * i] == k {
             return i;
         }
-        i += 1;
     }
-    i
+    count
 }
 
 // The first entry from `from` on whose key has the first word k; count where there is none.
@@ -215,28 +184,46 @@ fn next_entry(keys: &[u64], g: usize, front: usize, count: usize, from: usize, k
 }
 
 // Where the held events line up with the log: the one place that counts, if exactly one does.
-fn one_place(keys: &[u64], g: usize, head: Head, items: &[u64], held: usize, quiet: bool) -> Place
+fn one_place(
+    keys: &[u64],
+    g: usize,
+    head: Head,
+    items: &[u64],
+    held: usize,
+    quiet: bool,
+) -> Option<Place>
     requires { Counted g head keys.now items.now held }
     ensures { result ≡ place_of head.base (aligned quiet (event_keys (items_in held items.now))
         (keys_of g head.front head.count keys.now)) }
 {
-    let base = head.base;
-    let count = head.count;
-    let front = head.front;
+    let Head {
+        base,
+        count,
+        front,
+        ..
+    } = head;
     if count == 0 {
-        return Place::Nowhere;
+        return None;
     }
     let first = next_event(items, held, 0);
     if first >= held {
-        return Place::Nowhere;
+        return None;
     }
-    let mut found = Place::Nowhere;
+    let log = LogView {
+        keys,
+        base,
+        count,
+        front,
+        g,
+    };
+    let mut found = None;
     // The next candidate: the first held event at entry q; past the log's end the j-th, item x, at entry 0.
     // Where the first words of the two keys differ there is no candidate.
     let lead = keys[2 * front];
     let mut q = next_entry(keys, g, front, count, 0, items[4 * first + 1]);
     let mut x = next_event(items, held, first + 1);
     let mut j: usize = 1;
+    // Neither loop goes by one index: the items and the log's entries are walked together, each as far as the keys agree.
     'places: loop {
         // This candidate: the held events from item i on, the cj-th and later, against the log from entry l on.
         let mut i = first;
@@ -260,21 +247,13 @@ fn one_place(keys: &[u64], g: usize, head: Head, items: &[u64], held: usize, qui
         let start = l;
         while i < held {
             let key = EventKey(items[4 * i + 1], items[4 * i + 2]);
-            match log_borrowed::view::match_at_slice(
-                keys,
-                base,
-                count,
-                front,
-                g,
-                base + l as u64,
-                key,
-            ) {
-                Matched::Same => {
+            match log.match_at(base + l as u64, key) {
+                Some(true) => {
                     l += 1;
                     i = next_event(items, held, i + 1);
                 }
-                Matched::Differs => continue 'places,
-                Matched::Nowhere => break,
+                Some(false) => continue 'places,
+                None => break,
             }
         }
         let run = l - start >= ALIGN_RUN;
@@ -282,11 +261,14 @@ fn one_place(keys: &[u64], g: usize, head: Head, items: &[u64], held: usize, qui
         if !(run | level) {
             continue 'places;
         }
-        if let Place::At(_, _) = found {
-            found = Place::Nowhere;
+        if found.is_some() {
+            found = None;
             break 'places;
         }
-        found = Place::At(cj, base + start as u64);
+        found = Some(Place {
+            event: cj,
+            number: base + start as u64,
+        });
     }
     found
 }
@@ -296,17 +278,13 @@ fn holds_run(items: &[u64], held: usize) -> bool
     requires { 4 * held ≤ length items.now }
     ensures { result ≡ leb align_run (length (event_keys (items_in held items.now))) }
 {
-    let mut i = 0;
-    let mut n: usize = 0;
-    while i < held {
+    let mut n = 0;
+    for i in 0..held {
         if items[4 * i] == EVENT {
             n += 1;
             if n == ALIGN_RUN {
                 return true;
             }
-            i += 1;
-        } else {
-            i += 1;
         }
     }
     false
@@ -320,16 +298,14 @@ pub fn alignment(
     items: &[u64],
     held: usize,
     quiet: bool,
-) -> Place
+) -> Option<Place>
     requires { Counted g head keys.now items.now held }
     ensures { result ≡ place_of head.base (aligned quiet (event_keys (items_in held items.now))
         (keys_of g head.front head.count keys.now)) }
 {
-    if quiet {
-        return one_place(keys, g, head, items, held, quiet);
+    if quiet || holds_run(items, held) {
+        one_place(keys, g, head, items, held, quiet)
+    } else {
+        None
     }
-    if holds_run(items, held) {
-        return one_place(keys, g, head, items, held, quiet);
-    }
-    Place::Nowhere
 }

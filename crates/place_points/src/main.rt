@@ -2,14 +2,13 @@
 #![tactic(auto)]
 
 ghost use Rattle.std.specs.Prelude.{◌≡◌, ◌≤◌};
-ghost use Rattle.place_points.specs.Points.{place_at, same_place, Point};
+ghost use Rattle.place_points.specs.Points.{place_at, Point};
 
 use event_log::Head;
 use place::Place;
-use rules::Stamp;
 
 // The place of the line's first `held` items in the log's first `count` entries.
-fn place_at(count: usize, held: usize) -> Place
+fn place_at(count: usize, held: usize) -> Option<Place>
     requires { (count ≤ 8) × (held ≤ 5) }
     ensures { result ≡ place_at count held }
 {
@@ -18,38 +17,30 @@ fn place_at(count: usize, held: usize) -> Place
     let head = Head {
         base: 0,
         count,
-        last: Stamp::Never,
+        last: None,
         front: 6,
     };
     place::alignment(&log, 8, head, &line, held, false)
 }
 
-fn same_place(a: Place, b: Place) -> bool
-    ensures { result ≡ same_place a b }
-{
-    match a {
-        Place::At(i, m) => match b {
-            Place::At(j, n) => (i == j) & (m == n),
-            Place::Nowhere => false,
-        },
-        Place::Nowhere => match b {
-            Place::At(_, _) => false,
-            Place::Nowhere => true,
-        },
-    }
-}
-
-fn expect_place(count: usize, held: usize, want: Place)
+fn expect_place(count: usize, held: usize, want: Option<Place>)
     requires { Point count held want }
 {
-    check::expect(same_place(place_at(count, held), want));
+    check::expect(place_at(count, held) == want);
+}
+
+// The held events from this one on are the log's from this number on.
+fn at(event: usize, number: u64) -> Option<Place>
+    ensures { result ≡ Some (record { event = event; number = number }) }
+{
+    Some(Place { event, number })
 }
 
 fn main() {
     // Log p q r s: p q r has no place; with s behind it the line is level from number 0 on.
-    expect_place(4, 3, Place::Nowhere);
-    expect_place(4, 4, Place::At(0, 0));
+    expect_place(4, 3, None);
+    expect_place(4, 4, at(0, 0));
     // Log p q r s p q r s: p q r s has two places; with t behind it the one at number 4 is left, and t is number 8.
-    expect_place(8, 4, Place::Nowhere);
-    expect_place(8, 5, Place::At(0, 4));
+    expect_place(8, 4, None);
+    expect_place(8, 5, at(0, 4));
 }

@@ -1,4 +1,5 @@
 -- A print counted: the key touched, then the count of its connection raised.
+use Rattle.std.specs.Prelude.{Result, Ok, Err}
 use mathlib.Core.Path.{◌≡◌, refl, sym, ◌∙◌, ap, subst, fun_ext}
 use mathlib.Core.List.{List, map}
 use mathlib.Core.Bool.{Bool, true, false, not, cond}
@@ -12,8 +13,6 @@ use Rattle.rules.specs.Prints.{KeyRow, CountRow, key_before, count_before, of_ke
 use Rattle.rules.specs.Sound.{TablesSound}
 use Rattle.rules.proofs.Order.{same-itself}
 use Rattle.words.proofs.Mapped.{amend-map, insert-map}
-use Rattle.rows.specs.declared.Place.{Place}
-use Rattle.rows.specs.declared.Place.TheVariants.{At, Gap}
 use Rattle.rows.specs.declared.Runs.{Runs}
 use Rattle.rows.specs.declared.Added.{Added}
 use Rattle.rows.specs.Rows.{Row, row, row_at, row_in, alike, Here, Between, Put}
@@ -32,7 +31,7 @@ module _ (c : ℕ) (u : Runs) (k : Key) (t : ℕ) (w : List ℕ) (s : Table fals
   touched r = record { key = r.key; applied = r.applied; touched = t }
 
   -- by whether it was there
-  touch_is : (p : Place) → Stands false 0 u k.0 k.1 0 w p
+  touch_is : (p : Result ℕ ℕ) → Stands false 0 u k.0 k.1 0 w p
       → touch k t (map key_row (table_of false 0 u w))
       ≡ cond (not (is_gap p)) (amend (of_key k) touched (map key_row (table_of false 0 u w)))
       (insert key_before (record { key = k; applied = 0; touched = t }) (map key_row (table_of false 0 u w)))
@@ -50,7 +49,7 @@ module _ (c : ℕ) (u : Runs) (k : Key) (t : ℕ) (w : List ℕ) (s : Table fals
         table =
             ap (map key_row) (hit-amend false 0 u w s k.0 k.1 0 i h g (λ r. refl) v p)
             ∙ amend-map key_row (of_key k) touched g (λ r. refl) (table_of false 0 u w)
-            ∙ sym (touch_is (At i) h);
+            ∙ sym (touch_is (Ok i) h);
         lies = record { inside = omega (arith, length-set w (4 * i + 3) t, s.lies.inside); short = s.lies.short };
         fits = b;
         here = record { within = h.within; hit = ap (λ (r : Row). alike false r k.0 k.1 0) p.here ∙ h.hit };
@@ -74,7 +73,7 @@ module _ (c : ℕ) (u : Runs) (k : Key) (t : ℕ) (w : List ℕ) (s : Table fals
         table =
             ap (map key_row) g.table
             ∙ insert-map key_row key_before (row k.0 k.1 0 t) (table_of false 0 u w)
-            ∙ sym (touch_is (Gap i) m);
+            ∙ sym (touch_is (Err i) m);
         lies = record { inside = omega (arith, g.more); short = g.short };
         fits = omega (arith, g.more);
         here = record { within = g.within; hit = ap (λ (r : Row). alike false r k.0 k.1 0) g.here ∙ same-itself k };
@@ -87,7 +86,7 @@ module _ (c : ℕ) (u : Runs) (k : Key) (x n : ℕ) (w : List ℕ) (s : Table tr
   raised : CountRow → CountRow
   raised r = record { key = r.key; conn = r.conn; delivered = suc r.delivered }
 
-  deliver-is : (p : Place) → Stands true c u k.0 k.1 x w p
+  deliver-is : (p : Result ℕ ℕ) → Stands true c u k.0 k.1 x w p
       → deliver k x (map count_row (table_of true c u w))
       ≡ cond (not (is_gap p)) (amend (of_pair k x) raised (map count_row (table_of true c u w)))
       (insert count_before (record { key = k; conn = x; delivered = 1 }) (map count_row (table_of true c u w)))
@@ -105,7 +104,7 @@ module _ (c : ℕ) (u : Runs) (k : Key) (x n : ℕ) (w : List ℕ) (s : Table tr
         table =
             ap (map count_row) (hit-amend true c u w s k.0 k.1 x i h g (λ r. refl) v p)
             ∙ amend-map count_row (of_pair k x) raised g (λ r. refl) (table_of true c u w)
-            ∙ sym (deliver-is (At i) h);
+            ∙ sym (deliver-is (Ok i) h);
         lies = record { inside = omega (arith, length-set w (4 * (c + i) + 3) n, s.lies.inside); short = s.lies.short };
         others = λ j l. p.others j (λ e. omega arith);
       }
@@ -134,7 +133,7 @@ module _ (c : ℕ) (u : Runs) (k : Key) (x n : ℕ) (w : List ℕ) (s : Table tr
             ap (map count_row) g.table
             ∙ insert-map count_row count_before (row k.0 k.1 x n) (table_of true c u w)
             ∙ ap (λ (j : ℕ). insert count_before (record { key = k; conn = x; delivered = j }) (map count_row (table_of true c u w))) one
-            ∙ sym (deliver-is (Gap i) m);
+            ∙ sym (deliver-is (Err i) m);
         lies = record { inside = omega (arith, g.more); short = g.short };
         others = g.below;
       }
@@ -154,9 +153,9 @@ module _ (three : Bool) (b : ℕ) (u : Runs) (w v : List ℕ) (same : (k : ℕ) 
         rises = subst (Rising (Before three)) (sym list_same) t.rises;
       }
 
-  still-stands : (x y z : ℕ) (p : Place) → Stands three b u x y z w p → Stands three b u x y z v p
-  still-stands x y z (At i) h = subst (λ (f : ℕ → Row). Here three f (size u) x y z i) (rows_same b (omega arith)) h
-  still-stands x y z (Gap i) m =
+  still-stands : (x y z : ℕ) (p : Result ℕ ℕ) → Stands three b u x y z w p → Stands three b u x y z v p
+  still-stands x y z (Ok i) h = subst (λ (f : ℕ → Row). Here three f (size u) x y z i) (rows_same b (omega arith)) h
+  still-stands x y z (Err i) m =
       record {
         gap = m.gap;
         old = subst (λ (f : ℕ → Row). Between three f u.old x y z m.gap) (rows_same b (omega arith)) m.old;
@@ -198,7 +197,7 @@ module _ (c : ℕ) (w : List ℕ) (u : Used) (k : Key) (x : ℕ) (n : Found) (f 
 
     pub deliver-done : {z : ℕ} → t ≡ z → (v' : List ℕ) (m : Runs) → PairCounted c u.counts k x v v' m → length v' ≡ length v
         → (prints_of c v' (record { keys = r.runs; counts = m }) ≡ counted k x z (prints_of c w u))
-        × (Fits c v' (record { keys = r.runs; counts = m }) × KeyStands v' (record { keys = r.runs; counts = m }) k (At r.at))
+        × (Fits c v' (record { keys = r.runs; counts = m }) × KeyStands v' (record { keys = r.runs; counts = m }) k (Ok r.at))
     unfolding prints_of
     deliver-done q v' m p e' = (
       prints-eq

@@ -1,8 +1,8 @@
 -- Both tables merged, and expiry by what is then in order.
-use mathlib.Core.Path.{◌≡◌, sym, ◌∙◌, ap, subst}
+use mathlib.Core.Path.{◌≡◌, sym, ◌∙◌, ap}
 use mathlib.Core.List.{List, map}
 use mathlib.Core.Bool.{true, false}
-use Prim.Native.Nat.{ℕ, ◌+◌, ◌*◌, ◌≤◌, ◌<◌}
+use Prim.Native.Nat.{ℕ, ◌+◌, ◌<◌}
 use native.Mathlib.Omega.{arith}
 use lib.ListN.{length}
 use Rattle.rules.specs.Prints.{expire_prints}
@@ -47,9 +47,6 @@ module _ (c : ℕ) (w : List ℕ) (u : Used) (f : Fits c w u) (s : TablesSound (
       (each_map key_row (λ r. stays t r ≡ true) (table_of false 0 u.keys w) (table-each false 0 u.keys w (λ r. stays t (key_row r) ≡ true) h))
 
   module _ (x : List ℕ) (l : length x ≡ length w) (e : in_order c (size u.keys) (size u.counts) x ≡ prints_of c w u) where
-    pub kept-ready : ((size u.keys ≤ c) × (4 * (c + size u.counts) ≤ length x)) × TablesSound (in_order c (size u.keys) (size u.counts) x)
-    kept-ready = ((f.apart, omega (arith, f.counts.inside)), subst TablesSound (sym e) s)
-
     module _ (t : ℕ) (v v' : List ℕ) (r r' : ℕ) (p : CountsKept c (size u.keys) (size u.counts) t x v r') (q : KeysKept (size u.keys) t v v' r)
         (m : length v ≡ length x) (n : length v' ≡ length v) where
       abbrev left : Used

@@ -17,7 +17,7 @@ use Rattle.rules.proofs.Order.{same_true, same_pair, pair_before, before-climbs}
 use Rattle.words.specs.Words.{tab, Says}
 use Rattle.words.proofs.Tab.{tab-ext}
 use Rattle.words.proofs.Cases.{below_or, says, says-yes, says-no}
-use Rattle.words.proofs.Lists.{any-passes, each_in, rising-in, Kept, kept-none, kept-yes, kept-no, any-keep-none, any-keep-at}
+use Rattle.words.proofs.Lists.{any-passes, each_in, rising-in, Kept, kept-yes, kept-no, any-keep-none, any-keep-at}
 use Rattle.rows.specs.Rows.{row_at, alike, Put}
 use Rattle.rows.proofs.Tests.{no_both}
 use Rattle.rows.proofs.Order.{key_order, pair_order, less-differs}
@@ -42,9 +42,6 @@ module _ (c nk nc : ℕ) (w : List ℕ) (s : TablesSound (in_order c nk nc w)) w
 -- no key before i is that of count row j
 abbrev Passed : ℕ → ℕ → List ℕ → ℕ → ℕ → Type 0
 Passed c nc w i j = j < nc → (a : ℕ) → a < i → of_key (count_at c w j).key (key_at w a) ≡ false
-
-passed_none : (c nc : ℕ) (w : List ℕ) (j : ℕ) → Passed c nc w 0 j
-passed_none c nc w j h a l = absurd (omega arith)
 
 module _ (c nk nc : ℕ) (w : List ℕ) (i j : ℕ) where
   passed-key : Passed c nc w i j → (j < nc → of_key (count_at c w j).key (key_at w i) ≡ true → ⊥) → Passed c nc w (i + 1) j
@@ -91,9 +88,6 @@ pub record KeyTurn (n t : ℕ) (w v : List ℕ) (i j : ℕ) : Type 0 where
   pub i-le : i ≤ n
   pub kept : Kept (stays t) (key_at w) (key_at v) i j
   pub rest : (k : ℕ) → i ≤ k → row_at v k ≡ row_at w k
-
-pub key-start : (n t : ℕ) (w : List ℕ) → KeyTurn n t w w 0 0
-key-start n t w = record { size = refl; i-le = omega arith; kept = kept-none (stays t) (key_at w) (key_at w); rest = λ k h. refl }
 
 module _ (n t : ℕ) (w v : List ℕ) (i j : ℕ) (s : KeyTurn n t w v i j) (h : i < n) (b : Bool) (e : b ≡ stays t (key_at v i)) where
   key-is : key_at v i ≡ key_at w i
@@ -143,17 +137,6 @@ pub record CountTurn (c nk nc t : ℕ) (w v : List ℕ) (k i j : ℕ) : Type 0 w
   pub rest : (a : ℕ) → i ≤ a → row_at v (c + a) ≡ row_at w (c + a)
   pub others : (a : ℕ) → a < c → row_at v a ≡ row_at w a
   pub passed : Passed c nc w k i
-
-pub count-start : (c nk nc t : ℕ) (w : List ℕ) → CountTurn c nk nc t w w 0 0 0
-count-start c nk nc t w =
-    record {
-      size = refl;
-      i-le = omega arith;
-      kept = kept-none (key_stays nk t w) (count_at c w) (count_at c w);
-      rest = λ a h. refl;
-      others = λ a h. refl;
-      passed = passed_none c nc w 0;
-    }
 
 module _ (c nk nc t : ℕ) (w v : List ℕ) (k i j : ℕ) (s : CountTurn c nk nc t w v k i j) (z : TablesSound (in_order c nk nc w)) (f : (nk ≤ c) × (4 * (c + nc) ≤ length w)) (h : i < nc) where
   -- a key row is left for count row i

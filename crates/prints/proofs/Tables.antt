@@ -1,4 +1,5 @@
 -- The two tables as the rules' lists of rows: what is looked up and applied, and whether a row is free.
+use Rattle.std.specs.Prelude.{Result, Ok, Err}
 use mathlib.Core.Path.{◌≡◌, refl, sym, ◌∙◌, ap, subst}
 use mathlib.Core.List.{List, map}
 use mathlib.Core.Bool.{Bool, true, false, not, ◌&&◌, ◌||◌}
@@ -9,14 +10,12 @@ use lib.ListN.{length, get_or, set, length-map}
 use lib.Dec.{leb}
 use Rattle.rules.specs.declared.Limits.{Limits}
 use Rattle.rules.specs.Lists.{any, maybe}
-use Rattle.rules.specs.Quantities.{Key, key}
+use Rattle.rules.specs.Quantities.{Key}
 use Rattle.rules.specs.Prints.{KeyRow, CountRow, Prints, of_key, of_pair, applied_in, delivered_in, set_applied, apply_print}
 use Rattle.rules.specs.Calls.{no_row}
 use Rattle.rules.specs.Sound.{TablesSound, KeyLess, CountLess}
 use Rattle.rules.proofs.Tests.{leb-false, or-false-left, or-false-right, ff≢tt}
 use Rattle.words.proofs.Mapped.{any-map, first-map, amend-map, map-rising}
-use Rattle.rows.specs.declared.Place.{Place}
-use Rattle.rows.specs.declared.Place.TheVariants.{At, Gap}
 use Rattle.rows.specs.declared.Runs.{Runs}
 use Rattle.rows.specs.Rows.{Row, row, row_at, row_in, Here, Put}
 use Rattle.rows.specs.Tables.{size, table_of, Table, Missing, Stands}
@@ -58,18 +57,18 @@ module _ (c : ℕ) (w : List ℕ) (u : Used) where
     counts-table = record { lies = f.counts; rises = map-rising count_row CountLess (table_of true c u.counts w) s.pairs_rise }
 
 -- ---- where a row stands
-module _ (u : Runs) (w : List ℕ) (k : Key) {p : Place} {i : ℕ} (s : Stands false 0 u k.0 k.1 0 w p) where
-  pub key-at : p ≡ At i → Here false (row_in 0 w) (size u) k.0 k.1 0 i
+module _ (u : Runs) (w : List ℕ) (k : Key) {p : Result ℕ ℕ} {i : ℕ} (s : Stands false 0 u k.0 k.1 0 w p) where
+  pub key-at : p ≡ Ok i → Here false (row_in 0 w) (size u) k.0 k.1 0 i
   key-at e = subst (Stands false 0 u k.0 k.1 0 w) e s
 
-  pub key-gap : p ≡ Gap i → Missing false 0 u k.0 k.1 0 w i
+  pub key-gap : p ≡ Err i → Missing false 0 u k.0 k.1 0 w i
   key-gap e = subst (Stands false 0 u k.0 k.1 0 w) e s
 
-module _ (c : ℕ) (u : Runs) (w : List ℕ) (k : Key) (x : ℕ) {p : Place} {i : ℕ} (s : Stands true c u k.0 k.1 x w p) where
-  pub pair-at : p ≡ At i → Here true (row_in c w) (size u) k.0 k.1 x i
+module _ (c : ℕ) (u : Runs) (w : List ℕ) (k : Key) (x : ℕ) {p : Result ℕ ℕ} {i : ℕ} (s : Stands true c u k.0 k.1 x w p) where
+  pub pair-at : p ≡ Ok i → Here true (row_in c w) (size u) k.0 k.1 x i
   pair-at e = subst (Stands true c u k.0 k.1 x w) e s
 
-  pub pair-gap : p ≡ Gap i → Missing true c u k.0 k.1 x w i
+  pub pair-gap : p ≡ Err i → Missing true c u k.0 k.1 x w i
   pair-gap e = subst (Stands true c u k.0 k.1 x w) e s
 
 -- ---- a table of keys: one found, and one not found
@@ -77,9 +76,9 @@ module _ (u : Runs) (w : List ℕ) (s : Table false 0 u w) (k : Key) where
   abbrev key_rows : List Row
   key_rows = table_of false 0 u w
 
-  pub key-stands : (p : Place) → Stands false 0 u k.0 k.1 0 w p → any (of_key k) (map key_row (table_of false 0 u w)) ≡ not (is_gap p)
-  key-stands (At i) h = any-map key_row (of_key k) key_rows ∙ hit-any false 0 u w s k.0 k.1 0 i h
-  key-stands (Gap i) m = any-map key_row (of_key k) key_rows ∙ gap-any false 0 u w s k.0 k.1 0 i m
+  pub key-stands : (p : Result ℕ ℕ) → Stands false 0 u k.0 k.1 0 w p → any (of_key k) (map key_row (table_of false 0 u w)) ≡ not (is_gap p)
+  key-stands (Ok i) h = any-map key_row (of_key k) key_rows ∙ hit-any false 0 u w s k.0 k.1 0 i h
+  key-stands (Err i) m = any-map key_row (of_key k) key_rows ∙ gap-any false 0 u w s k.0 k.1 0 i m
 
   module _ (i : ℕ) (h : Here false (row_in 0 w) (size u) k.0 k.1 0 i) where
     applied-at : get_or w (4 * i + 2) 0 ≡ applied_in k (map key_row (table_of false 0 u w))
@@ -117,9 +116,9 @@ module _ (c : ℕ) (u : Runs) (w : List ℕ) (s : Table true c u w) (k : Key) (x
   abbrev count_rows : List Row
   count_rows = table_of true c u w
 
-  pub pair-stands : (p : Place) → Stands true c u k.0 k.1 x w p → any (of_pair k x) (map count_row (table_of true c u w)) ≡ not (is_gap p)
-  pair-stands (At i) h = any-map count_row (of_pair k x) count_rows ∙ hit-any true c u w s k.0 k.1 x i h
-  pair-stands (Gap i) m = any-map count_row (of_pair k x) count_rows ∙ gap-any true c u w s k.0 k.1 x i m
+  pub pair-stands : (p : Result ℕ ℕ) → Stands true c u k.0 k.1 x w p → any (of_pair k x) (map count_row (table_of true c u w)) ≡ not (is_gap p)
+  pair-stands (Ok i) h = any-map count_row (of_pair k x) count_rows ∙ hit-any true c u w s k.0 k.1 x i h
+  pair-stands (Err i) m = any-map count_row (of_pair k x) count_rows ∙ gap-any true c u w s k.0 k.1 x i m
 
   pub delivered-at : (i : ℕ) → Here true (row_in c w) (size u) k.0 k.1 x i → (row_in c w i).d ≡ delivered_in k x (map count_row (table_of true c u w))
   delivered-at i h =
@@ -167,11 +166,11 @@ module _ (c : ℕ) (w : List ℕ) (u : Used) (f : Fits c w u) (s : TablesSound (
   unfolding prints_of
   delivered-lacks x i m = delivered-none c u.counts w (counts-table c w u f s) k x i m
 
-  pub has-key : (p : Place) → KeyStands w u k p → any (of_key k) (prints_of c w u).key_rows ≡ not (is_gap p)
+  pub has-key : (p : Result ℕ ℕ) → KeyStands w u k p → any (of_key k) (prints_of c w u).key_rows ≡ not (is_gap p)
   unfolding prints_of
   has-key = key-stands u.keys w (keys-table c w u f s) k
 
-  pub has-pair : (x : ℕ) (p : Place) → PairStands c w u k x p → any (of_pair k x) (prints_of c w u).count_rows ≡ not (is_gap p)
+  pub has-pair : (x : ℕ) (p : Result ℕ ℕ) → PairStands c w u k x p → any (of_pair k x) (prints_of c w u).count_rows ≡ not (is_gap p)
   unfolding prints_of
   has-pair x = pair-stands c u.counts w (counts-table c w u f s) k x
 
@@ -215,9 +214,9 @@ module _ (c : ℕ) (w : List ℕ) (u : Used) (k : Key) (x : ℕ) where
           needed n.key (has-key c w u (fits c d w u f) s k n.key h.key) i && leb c (size u.keys)
           || needed n.pair (has-pair c w u (fits c d w u f) s k x n.pair h.pair) i && leb d (size u.counts))
         where
-          needed : {b : Bool} (p : Place) → b ≡ not (is_gap p) → not b ≡ is_gap p
-          needed (At i) e = ap not e
-          needed (Gap i) e = ap not e
+          needed : {b : Bool} (p : Result ℕ ℕ) → b ≡ not (is_gap p) → not b ≡ is_gap p
+          needed (Ok i) e = ap not e
+          needed (Err i) e = ap not e
 
       pub no-row-key : {a : Bool} → a ≡ (is_gap n.key && leb c (size u.keys)) → a ≡ true → true ≡ no_row k x l (prints_of c w u)
       no-row-key e t = sym (no-row-found ∙ ap (λ (b : Bool). b || is_gap n.pair && leb d (size u.counts)) (sym e ∙ t))

@@ -1,9 +1,8 @@
 -- The two print tables of a market in one lent slice: c rows for keys, then rows for counts. Each is a table of two runs.
-use Rattle.std.specs.Prelude.{◌≡◌, true, false, List, map, ℕ, ◌+◌, ◌*◌, ◌≤◌, ◌<◌, length}
+use Rattle.std.specs.Prelude.{◌≡◌, true, false, List, map, ℕ, ◌+◌, ◌*◌, ◌≤◌, ◌<◌, length, Result}
 use Rattle.rules.specs.Lists.{any}
 use Rattle.rules.specs.Quantities.{Key, key}
 use Rattle.rules.specs.Prints.{KeyRow, CountRow, Prints, of_key, of_pair}
-use Rattle.rows.specs.declared.Place.{Place}
 use Rattle.rows.specs.Rows.{Row, row_in}
 use Rattle.rows.specs.Tables.{size, table_of, most_new, Lies, Stands}
 use Rattle.prints.specs.declared.Used.{Used}
@@ -45,10 +44,10 @@ pub record Free (c : ℕ) (w : List ℕ) (u : Used) (k : Key) (conn : ℕ) : Typ
   pub for_pair : any (of_pair k conn) (prints_of c w u).count_rows ≡ false → 4 * (c + size u.counts) + 3 < length w
 
 -- where the row of the key k stands, and that of its connection
-abbrev pub KeyStands : List ℕ → Used → Key → Place → Type 0
+abbrev pub KeyStands : List ℕ → Used → Key → Result ℕ ℕ → Type 0
 KeyStands w u k p = Stands false 0 u.keys k.0 k.1 0 w p
 
-abbrev pub PairStands : ℕ → List ℕ → Used → Key → ℕ → Place → Type 0
+abbrev pub PairStands : ℕ → List ℕ → Used → Key → ℕ → Result ℕ ℕ → Type 0
 PairStands c w u k conn p = Stands true c u.counts k.0 k.1 conn w p
 
 pub record FoundIn (c : ℕ) (w : List ℕ) (u : Used) (k : Key) (conn : ℕ) (f : Found) : Type 0 where

@@ -1,23 +1,19 @@
 -- What the steps of counting, of the soundness test and of the expiry say, for the proofs of the calls that take them.
-use Rattle.std.specs.Prelude.{◌≡◌, Bool, true, false, List, map, ℕ, ◌+◌, ◌-◌, ◌*◌, ◌≤◌, ◌<◌, get_or, leb}
+use Rattle.std.specs.Prelude.{◌≡◌, Bool, true, false, List, map, ℕ, ◌+◌, ◌-◌, ◌*◌, ◌≤◌, ◌<◌, get_or, leb, Result, Ok, Err, Option, Some, None}
 use Rattle.rules.specs.Lists.{any, keep, Rising}
 use Rattle.rules.specs.Quantities.{Key, key, age, other_keep, max_count}
 use Rattle.rules.specs.Prints.{KeyRow, Prints, of_key, touch, deliver}
 use Rattle.words.specs.Words.{tab}
-use Rattle.rows.specs.declared.Place.{Place}
-use Rattle.rows.specs.declared.Place.TheVariants.{At, Gap}
 use Rattle.rows.specs.declared.Runs.{Runs}
 use Rattle.rows.specs.declared.Added.{Added}
 use Rattle.rows.specs.Rows.{row_at, row_in, below, alike, Rises, Here}
 use Rattle.rows.specs.Tables.{Before, size, table_of, Lies}
 use Rattle.prints.specs.declared.Used.{Used}
-use Rattle.prints.specs.declared.sound.Tested.{Tested}
-use Rattle.prints.specs.declared.sound.Tested.TheVariants.{Sound, Unsound}
 use Rattle.prints.specs.Area.{key_row, count_row, key_at, count_at}
 
-abbrev pub is_gap : Place → Bool
-is_gap (At i) = false
-is_gap (Gap i) = true
+abbrev pub is_gap : Result ℕ ℕ → Bool
+is_gap (Ok i) = false
+is_gap (Err i) = true
 
 -- v is w with the key k touched at t: its row stands at r.at
 pub record KeyTouched (c : ℕ) (u : Runs) (k : Key) (t : ℕ) (w v : List ℕ) (r : Added) : Type 0 where
@@ -67,9 +63,9 @@ pub record Reached (u : Runs) (b : ℕ) (w : List ℕ) (j : ℕ) (p : Runs) : Ty
   pub new : Past u.old u.new w p.new b j
 
 -- whether row j of a run of count rows has its key
-abbrev pub Owned : Runs → ℕ → List ℕ → ℕ → Tested → Type 0
-Owned u b w j (Sound p) = HasKey u w (b + j) × Reached u b w (j + 1) p
-Owned u b w j Unsound = HasKey u w (b + j) → ⊥
+abbrev pub Owned : Runs → ℕ → List ℕ → ℕ → Option Runs → Type 0
+Owned u b w j (Some p) = HasKey u w (b + j) × Reached u b w (j + 1) p
+Owned u b w j None = HasKey u w (b + j) → ⊥
 
 -- it is in order, its count fits, and it has its key
 pub record CountSound (u : Runs) (b : ℕ) (w : List ℕ) (j : ℕ) : Type 0 where
@@ -77,9 +73,9 @@ pub record CountSound (u : Runs) (b : ℕ) (w : List ℕ) (j : ℕ) : Type 0 whe
   pub small : get_or w (4 * (b + j) + 3) 0 ≤ max_count
   pub keyed : HasKey u w (b + j)
 
-abbrev pub CountTested : Runs → ℕ → List ℕ → ℕ → Tested → Type 0
-CountTested u b w j (Sound p) = CountSound u b w j × Reached u b w (j + 1) p
-CountTested u b w j Unsound = CountSound u b w j → ⊥
+abbrev pub CountTested : Runs → ℕ → List ℕ → ℕ → Option Runs → Type 0
+CountTested u b w j (Some p) = CountSound u b w j × Reached u b w (j + 1) p
+CountTested u b w j None = CountSound u b w j → ⊥
 
 pub record CountsSound (c : ℕ) (u : Used) (w : List ℕ) : Type 0 where
   pub rises : Rising (Before true) (table_of true c u.counts w)

@@ -9,7 +9,7 @@ ghost use Rattle.prints.specs.Area.{key_at, count_at, prints_of, Fits};
 ghost use Rattle.prints.specs.Steps.{in_order, CountsKept, KeysKept};
 
 use crate::Used;
-use rows::Runs;
+use rows::{RowKey, Runs};
 
 // A key untouched for longer is forgotten.
 const OTHER_KEEP: u64 = 30_000;
@@ -19,7 +19,7 @@ fn fresh(area: &[u64], i: usize, t: u64) -> bool
     requires { 4 * i + 3 < length area.now }
     ensures { result ≡ leb (age t (key_at area.now i).touched) other_keep }
 {
-    event_log::age(t, area[4 * i + 3]) <= OTHER_KEEP
+    t.saturating_sub(area[4 * i + 3]) <= OTHER_KEEP
 }
 
 // Count row j is one of the m, and of the key of key row i.
@@ -27,11 +27,21 @@ fn owns(area: &[u64], c: usize, m: usize, i: usize, j: usize) -> bool
     requires { (4 * i + 3 < length area.now) × (4 * (c + m) ≤ length area.now) }
     ensures { Says result ((j < m) × (of_key (count_at c area.now j).key (key_at area.now i) ≡ true)) }
 {
-    if j < m {
-        let q = 4 * (c + j);
-        return rows::same(area, i, false, area[q], area[q + 1], 0);
+    if j >= m {
+        return false;
     }
-    false
+    let q = 4 * (c + j);
+    let (x, y) = (area[q], area[q + 1]);
+    rows::same(
+        area,
+        i,
+        RowKey {
+            three: false,
+            x,
+            y,
+            z: 0,
+        },
+    )
 }
 
 // Of n keys and m count rows, all in order: the count rows of the keys that stay at t move together. Answers how many they are.
@@ -41,19 +51,15 @@ fn keep_counts(area: &mut [u64], c: usize, n: usize, m: usize, t: u64) -> usize
     ensures { CountsKept c n m t area.old area.new result }
 {
     let mut k = 0;
-    let mut i = 0;
     let mut j = 0;
-    while i < m {
-        if owns(area, c, m, k, i) {
-            if fresh(area, k, t) {
-                rows::copy_row(area, c + i, c + j);
-                j += 1;
-                i += 1;
-            } else {
-                i += 1;
-            }
-        } else {
+    for i in 0..m {
+        // a `while`: it looks on from the key of the row before, since no row's key is behind that
+        while !owns(area, c, m, k, i) {
             k += 1;
+        }
+        if fresh(area, k, t) {
+            rows::copy_row(area, c + i, c + j);
+            j += 1;
         }
     }
     j
@@ -64,15 +70,11 @@ fn keep_keys(area: &mut [u64], n: usize, t: u64) -> usize
     requires { 4 * n ≤ length area.old }
     ensures { KeysKept n t area.old area.new result }
 {
-    let mut i = 0;
     let mut j = 0;
-    while i < n {
+    for i in 0..n {
         if fresh(area, i, t) {
             rows::copy_row(area, i, j);
             j += 1;
-            i += 1;
-        } else {
-            i += 1;
         }
     }
     j
@@ -83,11 +85,8 @@ fn all_fresh(area: &[u64], n: usize, t: u64) -> bool
     requires { 4 * n ≤ length area.now }
     ensures { result ≡ true → (k : ℕ) → k < n → leb (age t (key_at area.now k).touched) other_keep ≡ true }
 {
-    let mut i = 0;
-    while i < n {
-        if fresh(area, i, t) {
-            i += 1;
-        } else {
+    for i in 0..n {
+        if !fresh(area, i, t) {
             return false;
         }
     }

@@ -15,28 +15,28 @@ ghost use Rattle.rows.specs.Tables.{size, table_of, Table, Stands};
 ghost use Rattle.prints.specs.Area.{count_row, prints_of, Fit, Fits, Free, KeyStands, PairStands, FoundIn};
 ghost use Rattle.prints.specs.Steps.{is_gap, KeyTouched, PairCounted};
 
-use rows::{Added, Place, Runs};
+use rows::{Added, Place, RowKey, Runs};
 use rules::EventKey;
 
 // The largest count of copies.
 pub const MAX_COUNT: u64 = 4_294_967_295;
 
 // The rows in use.
-#[derive(Clone, Copy)]
+#[derive(Clone, Copy, Debug, PartialEq, Eq)]
 pub struct Used {
     pub keys: Runs,
     pub counts: Runs,
 }
 
 // Where the row of a key stands, and that of the key and a connection.
-#[derive(Clone, Copy)]
+#[derive(Clone, Copy, Debug, PartialEq, Eq)]
 pub struct Found {
     pub key: Place,
     pub pair: Place,
 }
 
 // The rows in use after a print was counted, and where its key's row stands.
-#[derive(Clone, Copy)]
+#[derive(Clone, Copy, Debug, PartialEq, Eq)]
 pub struct Counted {
     pub used: Used,
     pub key: Place,
@@ -47,9 +47,23 @@ pub fn find(area: &[u64], c: usize, used: Used, key: EventKey, conn: u64) -> Fou
     requires { Fits c area.now used }
     ensures { FoundIn c area.now used key conn result }
 {
-    let k = rows::tables::find(area, 0, used.keys, false, key.0, key.1, 0);
-    let p = rows::tables::find(area, c, used.counts, true, key.0, key.1, conn);
-    Found { key: k, pair: p }
+    let EventKey(x, y) = key;
+    let of_key = RowKey {
+        three: false,
+        x,
+        y,
+        z: 0,
+    };
+    let of_pair = RowKey {
+        three: true,
+        x,
+        y,
+        z: conn,
+    };
+    Found {
+        key: rows::tables::find(area, 0, used.keys, of_key),
+        pair: rows::tables::find(area, c, used.counts, of_pair),
+    }
 }
 
 // How many copies of the print have been applied.
@@ -60,11 +74,8 @@ pub fn applied(area: &[u64], c: usize, used: Used, key: EventKey, place: Place) 
     ensures { result ≡ applied_in key (prints_of c area.now used).key_rows }
 {
     match place {
-        Place::At(i) => {
-            let p = 4 * i + 2;
-            area[p]
-        }
-        Place::Gap(_) => 0,
+        Ok(i) => area[4 * i + 2],
+        Err(_) => 0,
     }
 }
 
@@ -76,11 +87,8 @@ pub fn delivered(area: &[u64], c: usize, used: Used, key: EventKey, conn: u64, p
     ensures { result ≡ delivered_in key conn (prints_of c area.now used).count_rows }
 {
     match place {
-        Place::At(i) => {
-            let p = 4 * (c + i) + 3;
-            area[p]
-        }
-        Place::Gap(_) => 0,
+        Ok(i) => area[4 * (c + i) + 3],
+        Err(_) => 0,
     }
 }
 
@@ -89,10 +97,7 @@ fn none_free(place: Place, u: Runs, limit: usize) -> bool
     requires { size u ≤ limit }
     ensures { result ≡ (is_gap place && leb limit (size u)) }
 {
-    match place {
-        Place::At(_) => false,
-        Place::Gap(_) => limit <= u.old + u.new,
-    }
+    place.is_err() && limit <= u.old + u.new
 }
 
 // A print of the key by the connection needs a row, and none is free.
@@ -110,12 +115,7 @@ pub fn no_row(
     requires found_in { FoundIn c area.now used key conn found }
     ensures { (l : Limits) → l.C ≡ c → l.D ≡ d → result ≡ no_row key conn l (prints_of c area.now used) }
 {
-    let k = found.key;
-    let p = found.pair;
-    if none_free(k, used.keys, c) {
-        return true;
-    }
-    none_free(p, used.counts, d)
+    none_free(found.key, used.keys, c) || none_free(found.pair, used.counts, d)
 }
 
 // The key is touched at t; a new key gets a row. Answers the rows in use and where the key's row stands.
@@ -126,12 +126,26 @@ fn touch(area: &mut [u64], c: usize, keys: Runs, key: EventKey, t: u64, place: P
     ensures { KeyTouched c keys key t area.old area.new result }
 {
     match place {
-        Place::At(i) => {
-            let p = 4 * i + 3;
-            area[p] = t;
+        Ok(i) => {
+            area[4 * i + 3] = t;
             Added { runs: keys, at: i }
         }
-        Place::Gap(i) => rows::tables::add(area, 0, keys, false, i, key.0, key.1, 0, t),
+        Err(gap) => {
+            let EventKey(x, y) = key;
+            rows::tables::add(
+                area,
+                0,
+                keys,
+                gap,
+                RowKey {
+                    three: false,
+                    x,
+                    y,
+                    z: 0,
+                },
+                t,
+            )
+        }
     }
 }
 
@@ -152,14 +166,26 @@ fn count(
     ensures { PairCounted c counts key conn area.old area.new result }
 {
     match place {
-        Place::At(i) => {
-            let p = 4 * (c + i) + 3;
-            area[p] = n;
+        Ok(i) => {
+            area[4 * (c + i) + 3] = n;
             counts
         }
-        Place::Gap(i) => {
-            let added = rows::tables::add(area, c, counts, true, i, key.0, key.1, conn, n);
-            added.runs
+        Err(gap) => {
+            let EventKey(x, y) = key;
+            rows::tables::add(
+                area,
+                c,
+                counts,
+                gap,
+                RowKey {
+                    three: true,
+                    x,
+                    y,
+                    z: conn,
+                },
+                n,
+            )
+            .runs
         }
     }
 }
@@ -182,16 +208,13 @@ pub fn deliver(
     ensures used_after { prints_of c area.new result.used ≡ counted key conn t (prints_of c area.old used) }
     ensures fits_2 { (Fits c area.new result.used) × (KeyStands area.new result.used key result.key) }
 {
-    let k = found.key;
-    let p = found.pair;
-    let d = delivered(area, c, used, key, conn, p);
-    let added = touch(area, c, used.keys, key, t, k);
-    let counts = count(area, c, used.counts, key, conn, d + 1, p);
+    let d = delivered(area, c, used, key, conn, found.pair);
+    let added = touch(area, c, used.keys, key, t, found.key);
+    let counts = count(area, c, used.counts, key, conn, d + 1, found.pair);
     let keys = added.runs;
-    let used = Used { keys, counts };
     Counted {
-        used,
-        key: Place::At(added.at),
+        used: Used { keys, counts },
+        key: Ok(added.at),
     }
 }
 
@@ -202,12 +225,8 @@ pub fn apply(area: &mut [u64], c: usize, used: Used, key: EventKey, n: u64, plac
     requires key_stands { KeyStands area.old used key place }
     ensures { prints_of c area.new used ≡ apply_print key n (prints_of c area.old used) }
 {
-    match place {
-        Place::At(i) => {
-            let at = 4 * i + 2;
-            area[at] = n;
-        }
-        Place::Gap(_) => {}
+    if let Ok(i) = place {
+        area[4 * i + 2] = n;
     }
 }
 
@@ -218,7 +237,6 @@ pub fn remove_counts(area: &mut [u64], c: usize, used: Used, conn: u64) -> Used
     ensures result_after { prints_of c area.new result ≡ remove_counts conn (prints_of c area.old used) }
     ensures fits_2 { Fits c area.new result }
 {
-    let keys = used.keys;
     let counts = rows::removal::remove(area, c, used.counts, conn);
-    Used { keys, counts }
+    Used { counts, ..used }
 }

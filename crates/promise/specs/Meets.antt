@@ -1,6 +1,5 @@
 -- What every public call promises, as one predicate of the call, the words before, the answer and the words after.
-use Rattle.std.specs.Prelude.{◌≡◌, List, Bool, ℕ, length}
-use Rattle.std.proofs.Math.Option.{Option, none, some}
+use Rattle.std.specs.Prelude.{Option, None, Some, ◌≡◌, List, Bool, ℕ, length}
 use Rattle.rules.specs.declared.Limits.{Limits}
 use Rattle.rules.specs.Calls.{Outcome, refused, did}
 use Rattle.rules.specs.Lines.{Market}
@@ -34,8 +33,8 @@ pub record MeetsQuery (q : Market → Bool) (store : List ℕ) (answer : Queried
 
 -- a view's messages are written to the front of a list
 abbrev pub Written : Option (List ℕ) → List ℕ → List ℕ → Type 0
-Written none before after = after ≡ before
-Written (some ms) before after = after ≡ over ms before
+Written None before after = after ≡ before
+Written (Some ms) before after = after ≡ over ms before
 
 pub record MeetsView (conn : ℕ) (store before : List ℕ) (answer : Queried ℕ) (after : List ℕ) : Type 0 where
   pub unsound : (Sound store → ⊥) → (answer ≡ refusal 1) × (after ≡ before)

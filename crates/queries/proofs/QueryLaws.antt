@@ -1,28 +1,17 @@
--- From a query or a view of a sound store to what it promises on any words.
+-- From a view of a sound store to what it promises on any words.
 use mathlib.Core.Path.{◌≡◌, refl, ap}
 use mathlib.Core.List.{List}
-use mathlib.Core.Bool.{Bool}
 use Prim.Native.Nat.{ℕ, ◌+◌, ◌≤◌, ◌<◌}
 use native.Mathlib.Omega.{arith}
 use lib.ListN.{length}
 use borrow.Author.Tests.{lt-ltb, le-ltb}
 use Rattle.rules.specs.declared.Limits.{Limits}
-use Rattle.rules.specs.Lines.{Market}
 use Rattle.rules.specs.Refusals.{view, messages}
-use Rattle.rules.specs.Answers.{Queried, refusal, value}
+use Rattle.rules.specs.Answers.{refusal, value}
 use Rattle.store.specs.Store.{limits_of, market_of, Sound}
 use Rattle.store.proofs.MarketLaws.{market-limits}
 use Rattle.output.specs.Output.{over}
-use Rattle.promise.specs.Meets.{MeetsQuery, MeetsView}
-
-pub query-unmet : (q : Market → Bool) (w : List ℕ) → (Sound w → ⊥) → MeetsQuery q w (refusal 1)
-query-unmet q w u = record { unsound = λ v. refl; sound = λ s. absurd (u s) }
-
-pub query-met : (q : Market → Bool) (w : List ℕ) (a : Queried Bool) → Sound w → a ≡ value (q (market_of w)) → MeetsQuery q w a
-query-met q w a s e = record { unsound = λ u. absurd (u s); sound = λ t. e }
-
-pub view-unmet : (c : ℕ) (w v : List ℕ) → (Sound w → ⊥) → MeetsView c w v (refusal 1) v
-view-unmet c w v u = record { unsound = λ z. (refl, refl); sound = λ s. absurd (u s) }
+use Rattle.promise.specs.Meets.{MeetsView}
 
 pub view-short : (c : ℕ) (w v : List ℕ) → Sound w → length v < (limits_of w).H + 8 → MeetsView c w v (refusal 3) v
 unfolding view

@@ -1,8 +1,8 @@
 -- Two lists merged: what the merged list says of the two, and how it grows.
+use Rattle.std.specs.Prelude.{Option, None, Some}
 use mathlib.Core.Path.{◌≡◌, refl, sym, ◌∙◌, ap, subst}
 use mathlib.Core.Logic.{◌⊎◌, inl, inr}
 use mathlib.Core.List.{List, [], ◌∷◌, ◌++◌}
-use mathlib.Core.Option.{Option, none, some}
 use mathlib.Core.Bool.{Bool, true, false, ◌||◌, cond}
 use Prim.Native.Nat.{◌+◌}
 use native.Mathlib.Omega.{arith}
@@ -28,7 +28,7 @@ module _ {A : Type 0} where
   each_all P (x ∷ xs) h = (h x, each_all P xs h)
 
   -- none passes
-  pub first-lacks : (t : A → Bool) (l : List A) → any t l ≡ false → first t l ≡ none
+  pub first-lacks : (t : A → Bool) (l : List A) → any t l ≡ false → first t l ≡ None
   first-lacks t [] h = refl
   first-lacks t (x ∷ l) h = rw (or-false-left (t x) (any t l) h) (first-lacks t l (or-false-right (t x) (any t l) h))
 
@@ -46,7 +46,7 @@ module _ {A : Type 0} (lt : A → A → Bool) where
   merged-left x xs y ys e = ap (λ (b : Bool). cond b (y ∷ merged lt (x ∷ xs) ys) (x ∷ merged lt xs (y ∷ ys))) e
 
   -- induction by the steps of a merge
-  module _ (P : List A → List A → List A → Type 0) (none : (ys : List A) → P [] ys ys)
+  module _ (P : List A → List A → List A → Type 0) (None : (ys : List A) → P [] ys ys)
       (last : (x : A) (xs : List A) → P xs [] (merged lt xs []) → P (x ∷ xs) [] (x ∷ merged lt xs []))
       (right : (x : A) (xs : List A) (y : A) (ys : List A) → lt y x ≡ true → P (x ∷ xs) ys (merged lt (x ∷ xs) ys)
       → P (x ∷ xs) (y ∷ ys) (y ∷ merged lt (x ∷ xs) ys))
@@ -57,7 +57,7 @@ module _ {A : Type 0} (lt : A → A → Bool) where
     around-by x xs h (y ∷ ys) = by_cond (P (x ∷ xs) (y ∷ ys)) (lt y x) (λ e. right x xs y ys e (around-by x xs h ys)) (λ e. left x xs y ys e (h (y ∷ ys)))
 
     merged_by : (xs ys : List A) → P xs ys (merged lt xs ys)
-    merged_by [] ys = none ys
+    merged_by [] ys = None ys
     merged_by (x ∷ xs) ys = around-by x xs (λ zs. merged_by xs zs) ys
 
   pub merged-nil : (xs : List A) → merged lt xs [] ≡ xs
@@ -104,16 +104,16 @@ module _ {A : Type 0} (lt : A → A → Bool) where
   first-old t =
       merged_by (λ xs ys m. any t ys ≡ false → first t m ≡ first t xs)
       (λ ys h. first-lacks t ys h)
-      (λ x xs r h. ap (λ (a : Option A). cond (t x) (some x) a) (r h))
+      (λ x xs r h. ap (λ (a : Option A). cond (t x) (Some x) a) (r h))
       (λ x xs y ys e r h. rw (or-false-left (t y) (any t ys) h) (r (or-false-right (t y) (any t ys) h)))
-      (λ x xs y ys e r h. ap (λ (a : Option A). cond (t x) (some x) a) (r h))
+      (λ x xs y ys e r h. ap (λ (a : Option A). cond (t x) (Some x) a) (r h))
 
   pub first-new : (t : A → Bool) (xs ys : List A) → any t xs ≡ false → first t (merged lt xs ys) ≡ first t ys
   first-new t =
       merged_by (λ xs ys m. any t xs ≡ false → first t m ≡ first t ys)
       (λ ys h. refl)
       (λ x xs r h. rw (or-false-left (t x) (any t xs) h) (r (or-false-right (t x) (any t xs) h)))
-      (λ x xs y ys e r h. ap (λ (a : Option A). cond (t y) (some y) a) (r h))
+      (λ x xs y ys e r h. ap (λ (a : Option A). cond (t y) (Some y) a) (r h))
       (λ x xs y ys e r h. rw (or-false-left (t x) (any t xs) h) (r (or-false-right (t x) (any t xs) h)))
 
   -- a change that moves nothing

@@ -1,16 +1,16 @@
 -- Rows written, copied and moved up.
-use mathlib.Core.Path.{◌≡◌, refl, ◌∙◌, ap}
+use mathlib.Core.Path.{◌≡◌, ◌∙◌, ap}
 use mathlib.Core.Logic.{⊎_elim}
 use mathlib.Core.List.{List, [], ◌∷◌}
-use Prim.Native.Nat.{ℕ, ◌+◌, ◌-◌, ◌*◌, ◌≤◌, ◌<◌}
+use Prim.Native.Nat.{ℕ, ◌+◌, ◌*◌, ◌≤◌, ◌<◌}
 use native.Mathlib.Nat.{add-zero}
 use native.Mathlib.Omega.{arith}
 use lib.ListN.{length, get_or, set}
 use lib.Seq.{get_or-set_same, get_or-set_other}
 use Rattle.words.specs.Words.{back}
-use Rattle.words.proofs.Cases.{below_or, apart}
+use Rattle.words.proofs.Cases.{apart}
 use Rattle.words.proofs.Parts.{Loan, back_below, back_in, back_above}
-use Rattle.rows.specs.Rows.{Row, row, row_at, Put, Shifted}
+use Rattle.rows.specs.Rows.{Row, row, row_at, Put}
 
 -- a row by its words
 pub row_is : (w : List ℕ) (i : ℕ) (r : Row) → get_or w (4 * i + 0) 0 ≡ r.a → get_or w (4 * i + 1) 0 ≡ r.b → get_or w (4 * i + 2) 0 ≡ r.c → get_or w (4 * i + 3) 0 ≡ r.d → row_at w i ≡ r
@@ -93,23 +93,3 @@ pub record Raised (w v : List ℕ) (j n d : ℕ) : Type 0 where
   pub low : (k : ℕ) → k < j + d → row_at v k ≡ row_at w k
   pub moved : (k : ℕ) → j ≤ k → k < n → row_at v (k + d) ≡ row_at w k
   pub past : (k : ℕ) → n + d ≤ k → row_at v k ≡ row_at w k
-
-pub raised-start : (w : List ℕ) (n d : ℕ) → Raised w w n n d
-raised-start w n d = record { size = refl; high = omega arith; low = λ k h. refl; moved = λ k h l. absurd (omega arith); past = λ k h. refl }
-
-module _ (w v : List ℕ) (j n d : ℕ) (r : Raised w v j n d) where
-  pub raised-more : (v' : List ℕ) → 0 < j → length v' ≡ length v → Put v v' (j - 1 + d) (row_at v (j - 1)) → Raised w v' (j - 1) n d
-  raised-more v' l e p =
-      record {
-        size = e ∙ r.size;
-        high = omega (arith, r.high);
-        low = λ k h. p.others k (λ q. omega arith) ∙ r.low k (omega arith);
-        moved = λ k h m. ⊎_elim (λ b. first k (omega arith)) (λ b. p.others (k + d) (λ q. omega arith) ∙ r.moved k b m) (below_or k j);
-        past = λ k h. p.others k (λ q. omega (arith, r.high)) ∙ r.past k h;
-      }
-    where
-      first : (k : ℕ) → k ≡ j - 1 → row_at v' (k + d) ≡ row_at w k
-      first k q = rw q (p.here ∙ r.low (j - 1) (omega arith))
-
-  pub raised-stop : (i : ℕ) → i ≤ j → j ≤ i → Shifted w v i n d
-  raised-stop i l g = record { front = λ k h. r.low k (omega arith); moved = λ k h m. r.moved k (omega arith) m; past = r.past }

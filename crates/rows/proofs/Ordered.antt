@@ -15,8 +15,7 @@ use Rattle.rows.specs.Rows.{row_at, row_in, Rises}
 use Rattle.rows.specs.Tables.{Before, table_of}
 use Rattle.rows.specs.Merging.{Lacking, SeekNew}
 use Rattle.rows.specs.declared.Runs.{Runs}
-use Rattle.rows.specs.declared.Place.{Place}
-use Rattle.rows.specs.declared.Place.TheVariants.{At, Gap}
+use Rattle.std.specs.Prelude.{Result, Ok, Err}
 use Rattle.rows.proofs.Order.{pair_order}
 use Rattle.rows.proofs.Sorted.{sorted-steps}
 use Rattle.rows.proofs.Search.{found, missed}
@@ -27,9 +26,6 @@ use Rattle.rows.proofs.TableLaws.{run-gap}
 pub record Upto (n : ℕ) (P : ℕ → Type 0) (i : ℕ) : Type 0 where
   pub within : i ≤ n
   pub each : (k : ℕ) → k < i → P k
-
-pub upto-start : (n : ℕ) (P : ℕ → Type 0) → Upto n P 0
-upto-start n P = record { within = omega arith; each = λ k h. absurd (omega arith) }
 
 pub upto-more : (n : ℕ) (P : ℕ → Type 0) (i : ℕ) → Upto n P i → i < n → P i → Upto n P (i + 1)
 upto-more n P i u h p =
@@ -72,11 +68,8 @@ module _ (three : Bool) (b : ℕ) (u : Runs) (w : List ℕ) where
     pub within : k ≤ u.old
     pub left : 0 < k → i < u.new → Before three (row_in b w (k - 1)) (row_in (b + u.old) w i)
 
-  pub walked_start : Walked 0 0
-  walked_start = record { upto = upto-start u.new Alone; within = omega arith; left = λ h l. absurd (omega arith) }
-
   pub walked_more : (k i g : ℕ) → Rising (Before three) (tab u.new (row_in (b + u.old) w)) → Walked k i → i < u.new
-      → (p : Place) → SeekNew three b u.old w (row_at w (b + u.old + i)) p → p ≡ Gap g → Walked g (i + 1)
+      → (p : Result ℕ ℕ) → SeekNew three b u.old w (row_at w (b + u.old + i)) p → p ≡ Err g → Walked g (i + 1)
   walked_more k i g r s h p o e =
       let m = missed o e in
       record {
@@ -117,10 +110,10 @@ module _ (three : Bool) (b : ℕ) (u : Runs) (w : List ℕ) where
           (λ j. let g : m ≡ i = omega arith in rw g f)
           (below_or i m)
 
-      past : (m : ℕ) → i ≤ m → m < u.new → SeekNew three b u.old w (row_in (b + u.old) w m) (Gap u.old)
+      past : (m : ℕ) → i ≤ m → m < u.new → SeekNew three b u.old w (row_in (b + u.old) w m) (Err u.old)
       past m q p = record { within = omega arith; left = last m q p; right = λ j. absurd (omega arith); miss = λ j. absurd (omega arith) }
 
-  pub table-falls : (i k : ℕ) → i < u.new → (p : Place) → SeekNew three b u.old w (row_at w (b + u.old + i)) p → p ≡ At k
+  pub table-falls : (i k : ℕ) → i < u.new → (p : Result ℕ ℕ) → SeekNew three b u.old w (row_at w (b + u.old + i)) p → p ≡ Ok k
       → Rising (Before three) (table_of three b u w) → ⊥
   unfolding table_of
   table-falls i k h p o e r =

@@ -9,7 +9,7 @@ use borrow.Author.Tests.{eq-eqb, ne_eqb}
 use Rattle.rules.specs.Lists.{keep}
 use Rattle.words.specs.Words.{tab}
 use Rattle.words.proofs.Tab.{tab-ext}
-use Rattle.words.proofs.Lists.{Kept, kept-none, kept-yes, kept-no}
+use Rattle.words.proofs.Lists.{Kept, kept-yes, kept-no}
 use Rattle.rows.specs.Rows.{Row, row_at, row_in, Put}
 use Rattle.rows.specs.Tables.{before, merged, table_of, Table}
 use Rattle.rows.specs.Removal.{without, RunKept, Removed}
@@ -25,10 +25,6 @@ pub record RunTurn (from n to z : ℕ) (w v : List ℕ) (i j : ℕ) : Type 0 whe
   pub kept : Kept (without z) (row_in from w) (row_in to v) i j
   pub below : (k : ℕ) → k < to → row_at v k ≡ row_at w k
   pub rest : (k : ℕ) → from + i ≤ k → row_at v k ≡ row_at w k
-
-pub turn-start : (from n to z : ℕ) (w : List ℕ) → RunTurn from n to z w w 0 0
-turn-start from n to z w =
-    record { size = refl; i-le = omega arith; kept = kept-none (without z) (row_in from w) (row_in to w); below = λ k h. refl; rest = λ k h. refl }
 
 third-is : (w : List ℕ) (k : ℕ) → (row_at w k).c ≡ get_or w (4 * k + 2) 0
 unfolding row_at

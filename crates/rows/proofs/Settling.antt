@@ -1,6 +1,6 @@
 -- The new rows of a table come to their places, the last one first.
 use mathlib.Core.Path.{◌≡◌, refl, sym, ◌∙◌, ap, subst}
-use mathlib.Core.List.{List, ◌∷◌, ◌++◌, append_assoc, append-nil}
+use mathlib.Core.List.{List, ◌∷◌, ◌++◌, append_assoc}
 use mathlib.Core.Bool.{Bool, true, false}
 use Prim.Native.Nat.{ℕ, suc, ◌+◌, ◌-◌, ◌≤◌, ◌<◌}
 use native.Mathlib.Omega.{arith}
@@ -43,20 +43,6 @@ pub record Settling (three : Bool) (b n m : ℕ) (w t : List ℕ) (i j : ℕ) : 
   pub past : (k : ℕ) → b + (n + m) ≤ k → row_at t k ≡ row_at w k
   pub rest : merged (before three) (tab i (row_in b w)) (tab j (row_in (b + n) w)) ++ tab (n + m - (i + j)) (λ k. row_in b t (i + j + k))
       ≡ merged (before three) (tab n (row_in b w)) (tab m (row_in (b + n) w))
-
-pub settling-start : (three : Bool) (b n m : ℕ) (w : List ℕ) → Settling three b n m w w n m
-settling-start three b n m w =
-    record {
-      same = refl;
-      old = omega arith;
-      new = omega arith;
-      front = λ k h. refl;
-      past = λ k h. refl;
-      rest =
-          let q : n + m - (n + m) ≡ 0 = omega arith in
-          let l : List Row = merged (before three) (tab n (row_in b w)) (tab m (row_in (b + n) w)) in
-          ap (λ (c : ℕ). l ++ tab c (λ k. row_in b w (n + m + k))) q ∙ append-nil l;
-    }
 
 module _ (three : Bool) (b n m : ℕ) (w : List ℕ) (rises : Rising (Before three) (merged (before three) (tab n (row_in b w)) (tab m (row_in (b + n) w)))) where
   last_row : (i j r : ℕ) → i ≤ n → j < m → r ≤ i → (0 < r → before three (row_in b w (r - 1)) (row_in (b + n) w j) ≡ true)

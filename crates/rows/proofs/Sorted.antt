@@ -1,6 +1,6 @@
 -- Rows in rising order: what stands at a place, and what a gap says.
+use Rattle.std.specs.Prelude.{None, Some}
 use mathlib.Core.Path.{◌≡◌, sym, ◌∙◌, ap, subst}
-use mathlib.Core.Option.{none, some}
 use mathlib.Core.Logic.{⊎_elim}
 use mathlib.Core.Bool.{Bool, true, false}
 use Prim.Native.Nat.{ℕ, zero, suc, ◌+◌, ◌-◌, ◌≤◌, ◌<◌}
@@ -42,7 +42,7 @@ module _ {A I : Type 0} (pos : A → I) (B S : I → I → Bool) (f : ℕ → A)
     pub hit-any : any (λ r. S (pos r) p) (tab n f) ≡ true
     hit-any = any_at (λ r. S (pos r) p) n f i h e
 
-    pub hit-first : first (λ r. S (pos r) p) (tab n f) ≡ some (f i)
+    pub hit-first : first (λ r. S (pos r) p) (tab n f) ≡ Some (f i)
     hit-first = first-at (λ r. S (pos r) p) n f i h (λ k l. only k (omega arith) (λ q. omega arith)) e
 
     pub hit-amend : (g : A → A) (f' : ℕ → A) → f' i ≡ g (f i) → ((k : ℕ) → (k ≡ i → ⊥) → f' k ≡ f k) → tab n f' ≡ amend (λ r. S (pos r) p) g (tab n f)
@@ -77,7 +77,7 @@ module _ {A I : Type 0} (pos : A → I) (B S : I → I → Bool) (f : ℕ → A)
     pub gap-any : any (λ r. S (pos r) p) (tab n f) ≡ false
     gap-any = any_none (λ r. S (pos r) p) n f gap-misses
 
-    pub gap-first : first (λ r. S (pos r) p) (tab n f) ≡ none
+    pub gap-first : first (λ r. S (pos r) p) (tab n f) ≡ None
     gap-first = first-none (λ r. S (pos r) p) n f gap-misses
 
     pub gap-amend : (g : A → A) → amend (λ r. S (pos r) p) g (tab n f) ≡ tab n f

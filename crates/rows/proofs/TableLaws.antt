@@ -1,8 +1,8 @@
 -- What a place found in a table says of its list, and what a table's list keeps.
+use Rattle.std.specs.Prelude.{Option, None, Some}
 use mathlib.Core.Path.{◌≡◌, sym, ◌∙◌, ap, subst}
 use mathlib.Core.Logic.{⊎_elim}
 use mathlib.Core.List.{List}
-use mathlib.Core.Option.{Option, none, some}
 use mathlib.Core.Bool.{Bool, true, false, ◌||◌}
 use Prim.Native.Nat.{ℕ, ◌+◌, ◌-◌, ◌≤◌, ◌<◌}
 use native.Mathlib.Omega.{arith}
@@ -39,9 +39,9 @@ module _ (three : Bool) (n : ℕ) (f : ℕ → Row) (rising : Rising (Before thr
     hit : same_pair (pos three (f i)) (spot three x y z) ≡ true
     hit = sym (alike_is three (f i) x y z) ∙ e
 
-    run-first : first (mine three x y z) (tab n f) ≡ some (f i)
+    run-first : first (mine three x y z) (tab n f) ≡ Some (f i)
     run-first =
-        subst (λ (t : Row → Bool). first t (tab n f) ≡ some (f i)) (sym (mine-is three x y z))
+        subst (λ (t : Row → Bool). first t (tab n f) ≡ Some (f i)) (sym (mine-is three x y z))
         (Sorted.hit-first (pos three) pair_before same_pair f n sorted (spot three x y z) i h hit)
 
     run-amend : (g : Row → Row) (f' : ℕ → Row) → f' i ≡ g (f i) → ((k : ℕ) → (k ≡ i → ⊥) → f' k ≡ f k) → tab n f' ≡ amend (mine three x y z) g (tab n f)
@@ -145,7 +145,7 @@ module _ (three : Bool) (b : ℕ) (u : Runs) (w : List ℕ) where
           ∙ or-true (any (mine three x y z) olds))
           (below_or i u.old)
 
-      pub hit-first : first (mine three x y z) (table_of three b u w) ≡ some (row_in b w i)
+      pub hit-first : first (mine three x y z) (table_of three b u w) ≡ Some (row_in b w i)
       unfolding table_of
       hit-first =
           ⊎_elim
@@ -155,7 +155,7 @@ module _ (three : Bool) (b : ℕ) (u : Runs) (w : List ℕ) where
           (λ l.
           first-new (before three) (mine three x y z) olds news (old-lacks (i - u.old) (new-within l) (new-hit l))
           ∙ run-first three u.new (row_in (b + u.old) w) runs.1.0 x y z (i - u.old) (new-within l) (new-hit l)
-          ∙ ap {B = Option Row} some (new_row i l))
+          ∙ ap {B = Option Row} Some (new_row i l))
           (below_or i u.old)
 
       -- and it is changed, but keeps its place
@@ -207,7 +207,7 @@ module _ (three : Bool) (b : ℕ) (u : Runs) (w : List ℕ) where
           ∙ ap (λ (t : Bool). t || any (mine three x y z) news) (run-gap three u.old (row_in b w) runs.0 x y z m.gap m.old)
           ∙ run-gap three u.new (row_in (b + u.old) w) runs.1.0 x y z i m.new
 
-      pub gap-first : first (mine three x y z) (table_of three b u w) ≡ none
+      pub gap-first : first (mine three x y z) (table_of three b u w) ≡ None
       gap-first = first-lacks (mine three x y z) (table_of three b u w) gap-any
 
       pub gap-amend : (g : Row → Row) → amend (mine three x y z) g (table_of three b u w) ≡ table_of three b u w

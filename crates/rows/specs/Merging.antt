@@ -1,12 +1,7 @@
 -- What the steps of a merge and of the test of a table say, for the proofs of the functions that take them.
-use Rattle.std.specs.Prelude.{◌≡◌, List, Bool, true, false, ℕ, ◌+◌, ◌-◌, ◌≤◌, ◌<◌, length, get_or}
+use Rattle.std.specs.Prelude.{◌≡◌, List, Bool, true, false, ℕ, ◌+◌, ◌-◌, ◌≤◌, ◌<◌, Result}
 use Rattle.rows.specs.Rows.{Row, row_at, row_in, Between, Located}
-use Rattle.rows.specs.declared.Place.{Place}
 use Rattle.rows.specs.Tables.{before}
-
--- the words of w are at the front of v
-abbrev pub AtFront : List ℕ → List ℕ → Type 0
-AtFront w v = (i : ℕ) → i < length w → get_or v i 0 ≡ get_or w i 0
 
 -- of i rows from row b on, r come before the last of j new rows; the others are j higher, and it stands below them
 pub record Settled (three : Bool) (b i j : ℕ) (new w v : List ℕ) (r : ℕ) : Type 0 where
@@ -24,5 +19,5 @@ pub record Lacking (three : Bool) (b n : ℕ) (w : List ℕ) (s : Row) : Type 0 
   pub gap : Between three (row_in b w) n s.a s.b s.c at
 
 -- where among the n rows from row b on the row s stands, or would stand
-abbrev pub SeekNew : Bool → ℕ → ℕ → List ℕ → Row → Place → Type 0
+abbrev pub SeekNew : Bool → ℕ → ℕ → List ℕ → Row → Result ℕ ℕ → Type 0
 SeekNew three b n w s p = Located three (row_in b w) n s.a s.b s.c p

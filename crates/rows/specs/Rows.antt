@@ -1,7 +1,5 @@
 -- Tables of rows of four words. A table is n rows of the words from row b on.
-use Rattle.std.specs.Prelude.{◌≡◌, Bool, true, false, ◌&&◌, ◌||◌, List, ℕ, ◌+◌, ◌-◌, ◌*◌, ◌≤◌, ◌<◌, get_or, ltb, eqb}
-use Rattle.rows.specs.declared.Place.{Place}
-use Rattle.rows.specs.declared.Place.TheVariants.{At, Gap}
+use Rattle.std.specs.Prelude.{◌≡◌, Bool, true, false, ◌&&◌, ◌||◌, List, ℕ, ◌+◌, ◌-◌, ◌*◌, ◌≤◌, ◌<◌, get_or, ltb, eqb, Result, Ok, Err}
 
 pub record Row : Type 0 where
   pub a : ℕ
@@ -62,9 +60,9 @@ pub record Between (three : Bool) (f : ℕ → Row) (n x y z i : ℕ) : Type 0 w
   pub right : i < n → below three (f i) x y z ≡ false
   pub miss : i < n → alike three (f i) x y z ≡ false
 
-abbrev pub Located : Bool → (ℕ → Row) → ℕ → ℕ → ℕ → ℕ → Place → Type 0
-Located three f n x y z (At i) = Here three f n x y z i
-Located three f n x y z (Gap i) = Between three f n x y z i
+abbrev pub Located : Bool → (ℕ → Row) → ℕ → ℕ → ℕ → ℕ → Result ℕ ℕ → Type 0
+Located three f n x y z (Ok i) = Here three f n x y z i
+Located three f n x y z (Err i) = Between three f n x y z i
 
 -- v is w with the row x at i
 pub record Put (w v : List ℕ) (i : ℕ) (x : Row) : Type 0 where

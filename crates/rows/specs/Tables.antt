@@ -1,10 +1,8 @@
 -- Tables of two runs: rows in order, and behind them new ones, in order by themselves. What a table says is one list in order.
-use Rattle.std.specs.Prelude.{◌≡◌, List, [], ◌∷◌, Bool, true, cond, ℕ, suc, ◌+◌, ◌*◌, ◌≤◌, ◌<◌, length}
+use Rattle.std.specs.Prelude.{◌≡◌, List, [], ◌∷◌, Bool, true, cond, ℕ, suc, ◌+◌, ◌*◌, ◌≤◌, ◌<◌, length, Result, Ok, Err}
 use Rattle.rules.specs.Lists.{insert, Rising}
 use Rattle.words.specs.Words.{tab}
 use Rattle.rows.specs.Rows.{Row, row_at, row_in, below, Here, Between}
-use Rattle.rows.specs.declared.Place.{Place}
-use Rattle.rows.specs.declared.Place.TheVariants.{At, Gap}
 use Rattle.rows.specs.declared.Runs.{Runs}
 use Rattle.rows.specs.declared.Added.{Added}
 
@@ -55,9 +53,9 @@ pub record Missing (three : Bool) (b : ℕ) (u : Runs) (x y z : ℕ) (w : List �
   pub new : Between three (row_in (b + u.old) w) u.new x y z i
 
 -- where the row of the words x, y, z stands
-abbrev pub Stands : Bool → ℕ → Runs → ℕ → ℕ → ℕ → List ℕ → Place → Type 0
-Stands three b u x y z w (At i) = Here three (row_in b w) (size u) x y z i
-Stands three b u x y z w (Gap i) = Missing three b u x y z w i
+abbrev pub Stands : Bool → ℕ → Runs → ℕ → ℕ → ℕ → List ℕ → Result ℕ ℕ → Type 0
+Stands three b u x y z w (Ok i) = Here three (row_in b w) (size u) x y z i
+Stands three b u x y z w (Err i) = Missing three b u x y z w i
 
 -- v is w with the table's rows all in order
 pub record Joined (three : Bool) (b : ℕ) (u : Runs) (w v : List ℕ) : Type 0 where

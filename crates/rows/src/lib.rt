@@ -8,80 +8,55 @@ ghost use Rattle.std.specs.Prelude.{◌≡◌, true, ◌+◌, ◌-◌, ◌*◌, 
 ghost use Rattle.rows.specs.Rows.{row, row_at, row_in, below, alike, Rises, LooksFrom, Lower, Located, Put, Shifted};
 ghost use Rattle.words.specs.Words.{Says};
 
-// Where a row stands, or the gap before the row where it would stand.
-#[derive(Clone, Copy)]
-pub enum Place {
-    At(usize),
-    Gap(usize),
-}
+// Where a row stands, or, as `Err`, the gap before the row where it would stand: as `binary_search` answers.
+pub type Place = Result<usize, usize>;
 
 // The most new rows that a table may have.
 pub const MOST_NEW: usize = 512;
 
+// The words of the row that is looked for, in a table in order by two of them or by all three.
+#[derive(Clone, Copy, Debug, PartialEq, Eq)]
+pub struct RowKey {
+    pub three: bool,
+    pub x: u64,
+    pub y: u64,
+    pub z: u64,
+}
+
 // A table in two runs: how many rows stand in order, and how many new ones behind them, in order by themselves.
-#[derive(Clone, Copy)]
+#[derive(Clone, Copy, Debug, PartialEq, Eq)]
 pub struct Runs {
     pub old: usize,
     pub new: usize,
 }
 
 // A table that has got a row, and where that row stands.
-#[derive(Clone, Copy)]
+#[derive(Clone, Copy, Debug, PartialEq, Eq)]
 pub struct Added {
     pub runs: Runs,
     pub at: usize,
 }
 
 // Row i is below the words given.
-fn less(t: &[u64], i: usize, three: bool, x: u64, y: u64, z: u64) -> bool
+#[tactic(auto, unfolding(crate::specs::Rows::row_at))]
+fn less(t: &[u64], i: usize, key: RowKey) -> bool
     requires { 4 * i + 3 < length t.now }
-    ensures { result ≡ below three (row_at t.now i) x y z }
+    ensures { result ≡ below key.three (row_at t.now i) key.x key.y key.z }
 {
     let p = 4 * i;
     let a = t[p];
-    if a < x {
-        return true;
-    }
-    if x < a {
-        return false;
-    }
-    let b = t[p + 1];
-    if b < y {
-        return true;
-    }
-    if y < b {
-        return false;
-    }
-    if three {
-        let c = t[p + 2];
-        if c < z {
-            return true;
-        }
-    }
-    false
+    a < key.x
+        || a == key.x && (t[p + 1] < key.y || t[p + 1] == key.y && key.three && t[p + 2] < key.z)
 }
 
 // Row i is the row of the words given.
-pub fn same(t: &[u64], i: usize, three: bool, x: u64, y: u64, z: u64) -> bool
+#[tactic(auto, unfolding(crate::specs::Rows::row_at))]
+pub fn same(t: &[u64], i: usize, key: RowKey) -> bool
     requires { 4 * i + 3 < length t.now }
-    ensures { result ≡ alike three (row_at t.now i) x y z }
+    ensures { result ≡ alike key.three (row_at t.now i) key.x key.y key.z }
 {
     let p = 4 * i;
-    let a = t[p];
-    if a != x {
-        return false;
-    }
-    let b = t[p + 1];
-    if b != y {
-        return false;
-    }
-    if three {
-        let c = t[p + 2];
-        if c != z {
-            return false;
-        }
-    }
-    true
+    t[p] == key.x && t[p + 1] == key.y && (!key.three || t[p + 2] == key.z)
 }
 
 // Row i of the table is its first, or above the row before it.
@@ -93,7 +68,8 @@ pub fn rises(t: &[u64], b: usize, i: usize, three: bool) -> bool
         return true;
     }
     let p = 4 * (b + i);
-    less(t, b + (i - 1), three, t[p], t[p + 1], t[p + 2])
+    let (x, y, z) = (t[p], t[p + 1], t[p + 2]);
+    less(t, b + (i - 1), RowKey { three, x, y, z })
 }
 
 // Rows from lo on, so many, among which a search looks first.
@@ -108,17 +84,15 @@ fn look_at(t: &[u64], b: usize, n: usize, x: u64) -> Window
     requires { 4 * (b + n) ≤ length t.now }
     ensures { LooksFrom (row_in b t.now) n x result.lo result.len }
 {
-    if n < 128 {
-        return Window { lo: 0, len: n };
-    }
-    if 65_536 < n {
-        return Window { lo: 0, len: n };
+    let all = Window { lo: 0, len: n };
+    if n < 128 || 65_536 < n {
+        return all;
     }
     let part = x / 4_294_967_296;
     let guess = (part * n as u64 / 4_294_967_296) as usize;
     let margin = 32 + n / 32;
     if n < guess + margin {
-        return Window { lo: 0, len: n };
+        return all;
     }
     if guess < margin {
         return Window {
@@ -132,7 +106,7 @@ fn look_at(t: &[u64], b: usize, n: usize, x: u64) -> Window
             len: 2 * margin - 1,
         };
     }
-    Window { lo: 0, len: n }
+    all
 }
 
 // A row up to which the first words are below x, by halving.
@@ -140,32 +114,30 @@ fn first_below(t: &[u64], b: usize, n: usize, x: u64) -> usize
     requires { 4 * (b + n) ≤ length t.now }
     ensures { LooksFrom (row_in b t.now) n x result 0 }
 {
-    let w = look_at(t, b, n, x);
-    let mut lo = w.lo;
-    let mut len = w.len;
+    let Window { mut lo, mut len } = look_at(t, b, n, x);
+    // By hand: the rows are words of a lent slice, and `partition_point` searches a slice of rows.
     while 1 < len {
         let half = len / 2;
         if t[4 * (b + (lo + half - 1))] < x {
             lo += half;
-            len -= half;
-        } else {
-            len -= half;
         }
+        len -= half;
     }
     lo
 }
 
 // How many of n rising rows are below the words given, where i of them are: by halving.
-fn halve(t: &[u64], b: usize, n: usize, i: usize, three: bool, x: u64, y: u64, z: u64) -> usize
+fn halve(t: &[u64], b: usize, n: usize, i: usize, key: RowKey) -> usize
     requires n_in_bounds { (4 * (b + n) ≤ length t.now) × (i ≤ n) }
-    requires z_value { 0 < i → below three (row_in b t.now (i - 1)) x y z ≡ true }
-    ensures { Lower three (row_in b t.now) n x y z result }
+    requires key_value { 0 < i → below key.three (row_in b t.now (i - 1)) key.x key.y key.z ≡ true }
+    ensures { Lower key.three (row_in b t.now) n key.x key.y key.z result }
 {
     let mut lo = i;
     let mut hi = n;
+    // By hand, as above.
     while lo < hi {
         let mid = lo + (hi - lo) / 2;
-        if less(t, b + mid, three, x, y, z) {
+        if less(t, b + mid, key) {
             lo = mid + 1;
         } else {
             hi = mid;
@@ -175,68 +147,62 @@ fn halve(t: &[u64], b: usize, n: usize, i: usize, three: bool, x: u64, y: u64, z
 }
 
 // How many of n rising rows are below the words given, where i of them are: counted on from there.
-fn climb(t: &[u64], b: usize, n: usize, i: usize, three: bool, x: u64, y: u64, z: u64) -> usize
+fn climb(t: &[u64], b: usize, n: usize, i: usize, key: RowKey) -> usize
     requires n_in_bounds { (4 * (b + n) ≤ length t.now) × (i ≤ n) }
-    requires z_value { 0 < i → below three (row_in b t.now (i - 1)) x y z ≡ true }
-    ensures { Lower three (row_in b t.now) n x y z result }
+    requires key_value { 0 < i → below key.three (row_in b t.now (i - 1)) key.x key.y key.z ≡ true }
+    ensures { Lower key.three (row_in b t.now) n key.x key.y key.z result }
 {
-    let mut j = i;
-    while j < n {
-        if less(t, b + j, three, x, y, z) {
-            j += 1;
-        } else {
+    for j in i..n {
+        if !less(t, b + j, key) {
             return j;
         }
     }
-    j
+    n
 }
 
 // How many of n rising rows are below the words given.
-pub fn lower(t: &[u64], b: usize, n: usize, three: bool, x: u64, y: u64, z: u64) -> usize
+pub fn lower(t: &[u64], b: usize, n: usize, key: RowKey) -> usize
     requires { 4 * (b + n) ≤ length t.now }
-    ensures { Lower three (row_in b t.now) n x y z result }
+    ensures { Lower key.three (row_in b t.now) n key.x key.y key.z result }
 {
-    let i = first_below(t, b, n, x);
-    if i + 16 < n {
-        if less(t, b + (i + 16), three, x, y, z) {
-            return halve(t, b, n, i + 17, three, x, y, z);
-        }
+    let i = first_below(t, b, n, key.x);
+    if i + 16 < n && less(t, b + (i + 16), key) {
+        return halve(t, b, n, i + 17, key);
     }
-    climb(t, b, n, i, three, x, y, z)
+    climb(t, b, n, i, key)
+}
+
+// Row i, before which all are below the words given and which is not, is theirs, or they have their gap before it.
+fn place_at(t: &[u64], b: usize, n: usize, i: usize, key: RowKey) -> Place
+    requires n_in_bounds { 4 * (b + n) ≤ length t.now }
+    requires i_place { Lower key.three (row_in b t.now) n key.x key.y key.z i }
+    ensures { Located key.three (row_in b t.now) n key.x key.y key.z result }
+{
+    if i < n && same(t, b + i, key) {
+        Ok(i)
+    } else {
+        Err(i)
+    }
 }
 
 // Where the row of the words given stands among n rising rows, or would stand.
-fn locate(t: &[u64], b: usize, n: usize, three: bool, x: u64, y: u64, z: u64) -> Place
+fn locate(t: &[u64], b: usize, n: usize, key: RowKey) -> Place
     requires { 4 * (b + n) ≤ length t.now }
-    ensures { Located three (row_in b t.now) n x y z result }
+    ensures { Located key.three (row_in b t.now) n key.x key.y key.z result }
 {
-    let i = lower(t, b, n, three, x, y, z);
-    if i < n {
-        if same(t, b + i, three, x, y, z) {
-            return Place::At(i);
-        }
-    }
-    Place::Gap(i)
+    place_at(t, b, n, lower(t, b, n, key), key)
 }
 
 // The same, where i of the rows are below the words: along the rows if it is near.
-pub fn seek(t: &[u64], b: usize, n: usize, i: usize, three: bool, x: u64, y: u64, z: u64) -> Place
+pub fn seek(t: &[u64], b: usize, n: usize, i: usize, key: RowKey) -> Place
     requires n_in_bounds { (4 * (b + n) ≤ length t.now) × (i ≤ n) }
-    requires z_value { 0 < i → below three (row_in b t.now (i - 1)) x y z ≡ true }
-    ensures { Located three (row_in b t.now) n x y z result }
+    requires key_value { 0 < i → below key.three (row_in b t.now (i - 1)) key.x key.y key.z ≡ true }
+    ensures { Located key.three (row_in b t.now) n key.x key.y key.z result }
 {
-    if i + 16 < n {
-        if less(t, b + (i + 16), three, x, y, z) {
-            return locate(t, b, n, three, x, y, z);
-        }
+    if i + 16 < n && less(t, b + (i + 16), key) {
+        return locate(t, b, n, key);
     }
-    let k = climb(t, b, n, i, three, x, y, z);
-    if k < n {
-        if same(t, b + k, three, x, y, z) {
-            return Place::At(k);
-        }
-    }
-    Place::Gap(k)
+    place_at(t, b, n, climb(t, b, n, i, key), key)
 }
 
 // Row i becomes the words given.
@@ -245,8 +211,7 @@ pub fn put_row(t: &mut [u64], i: usize, x: u64, y: u64, z: u64, u: u64)
     ensures { Put t.old t.new i (row x y z u) }
 {
     let p = 4 * i;
-    let e = p + 4;
-    words::put4(&mut t[p..e], x, y, z, u);
+    t[p..p + 4].copy_from_slice(&[x, y, z, u]);
 }
 
 // Row `to` becomes row `from`.
@@ -255,10 +220,7 @@ pub fn copy_row(t: &mut [u64], from: usize, to: usize)
     ensures { Put t.old t.new to (row_at t.old from) }
 {
     let p = 4 * from;
-    let x = t[p];
-    let y = t[p + 1];
-    let z = t[p + 2];
-    let u = t[p + 3];
+    let (x, y, z, u) = (t[p], t[p + 1], t[p + 2], t[p + 3]);
     put_row(t, to, x, y, z, u)
 }
 
@@ -267,9 +229,7 @@ pub fn shift(t: &mut [u64], i: usize, n: usize, d: usize)
     requires { (i ≤ n) × (4 * (n + d) ≤ length t.old) }
     ensures { Shifted t.old t.new i n d }
 {
-    let mut j = n;
-    while i < j {
-        j -= 1;
+    for j in (i..n).rev() {
         copy_row(t, j, j + d);
     }
 }

@@ -10,18 +10,13 @@ fn keep_others(t: &mut [u64], from: usize, n: usize, to: usize, z: u64) -> usize
     requires { (to ≤ from) × (4 * (from + n) ≤ length t.old) }
     ensures { RunKept from n to z t.old t.new result }
 {
-    let mut i = 0;
     let mut j = 0;
-    while i < n {
-        if t[4 * (from + i) + 2] == z {
-            i += 1;
-        } else if to + j < from + i {
-            crate::copy_row(t, from + i, to + j);
-            i += 1;
-            j += 1;
-        } else {
-            // none before it went: it is in its place
-            i += 1;
+    for i in 0..n {
+        if t[4 * (from + i) + 2] != z {
+            // where none before it went, it is in its place
+            if to + j < from + i {
+                crate::copy_row(t, from + i, to + j);
+            }
             j += 1;
         }
     }

@@ -4,20 +4,20 @@ ghost use Rattle.rules.specs.Lists.{Rising};
 ghost use Rattle.words.specs.Words.{tab, Says};
 ghost use Rattle.rows.specs.Rows.{row, row_at, row_in};
 ghost use Rattle.rows.specs.Tables.{Before, size, table_of, most_new, Lies, Table, Missing, Stands, Joined, Grown};
-ghost use Rattle.rows.specs.Merging.{AtFront, Settled, SeekNew};
+ghost use Rattle.rows.specs.Merging.{Settled, SeekNew};
 
-use crate::{Added, Place, Runs};
+use crate::{Added, Place, RowKey, Runs};
 
 // Where the row of the words given stands; where none does, the gap among the new rows where it would.
-pub fn find(t: &[u64], b: usize, u: Runs, three: bool, x: u64, y: u64, z: u64) -> Place
+pub fn find(t: &[u64], b: usize, u: Runs, key: RowKey) -> Place
     requires { 4 * (b + size u) ≤ length t.now }
-    ensures { Stands three b u x y z t.now result }
+    ensures { Stands key.three b u key.x key.y key.z t.now result }
 {
-    match crate::locate(t, b, u.old, three, x, y, z) {
-        Place::At(i) => Place::At(i),
-        Place::Gap(_) => match crate::locate(t, b + u.old, u.new, three, x, y, z) {
-            Place::At(i) => Place::At(u.old + i),
-            Place::Gap(i) => Place::Gap(i),
+    match crate::locate(t, b, u.old, key) {
+        Ok(i) => Ok(i),
+        Err(_) => match crate::locate(t, b + u.old, u.new, key) {
+            Ok(i) => Ok(u.old + i),
+            Err(i) => Err(i),
         },
     }
 }
@@ -27,34 +27,13 @@ pub fn find(t: &[u64], b: usize, u: Runs, three: bool, x: u64, y: u64, z: u64) -
 fn most_new(n: usize) -> usize
     ensures { result ≤ most_new }
 {
-    if n < 128 {
-        return 16;
-    }
-    if n < 512 {
-        return 32;
-    }
-    if n < 2048 {
-        return 64;
-    }
-    if n < 8192 {
-        return 128;
-    }
-    if n < 32768 {
-        return 256;
-    }
-    crate::MOST_NEW
-}
-
-// Copies the words of `from` to the front of `to`.
-fn copy(from: &[u64], to: &mut [u64])
-    requires { length from.now ≤ length to.old }
-    ensures { AtFront from.now to.new }
-{
-    let n = from.len();
-    let mut i = 0;
-    while i < n {
-        to[i] = from[i];
-        i += 1;
+    match n {
+        0..=127 => 16,
+        128..=511 => 32,
+        512..=2047 => 64,
+        2048..=8191 => 128,
+        8192..=32767 => 256,
+        _ => crate::MOST_NEW,
     }
 }
 
@@ -65,11 +44,8 @@ fn settle(t: &mut [u64], new: &[u64], b: usize, i: usize, j: usize, three: bool)
     ensures { Settled three b i j new.now t.old t.new result }
 {
     let p = 4 * (j - 1);
-    let x = new[p];
-    let y = new[p + 1];
-    let z = new[p + 2];
-    let u = new[p + 3];
-    let at = crate::lower(t, b, i, three, x, y, z);
+    let (x, y, z, u) = (new[p], new[p + 1], new[p + 2], new[p + 3]);
+    let at = crate::lower(t, b, i, RowKey { three, x, y, z });
     crate::shift(t, b + at, b + i, j);
     crate::put_row(t, b + at + (j - 1), x, y, z, u);
     at
@@ -82,10 +58,8 @@ fn settle_all(t: &mut [u64], new: &[u64], b: usize, u: Runs, three: bool)
     ensures { Joined three b u t.old t.new }
 {
     let mut i = u.old;
-    let mut j = u.new;
-    while 0 < j {
-        i = settle(t, new, b, i, j, three);
-        j -= 1;
+    for j in (0..u.new).rev() {
+        i = settle(t, new, b, i, j + 1, three);
     }
 }
 
@@ -95,8 +69,8 @@ fn join_by(t: &mut [u64], new: &mut [u64], b: usize, u: Runs, three: bool)
     ensures { Joined three b u t.old t.new }
 {
     let a = 4 * (b + u.old);
-    let e = a + 4 * u.new;
-    copy(&t[a..e], new);
+    let n = 4 * u.new;
+    new[..n].copy_from_slice(&t[a..a + n]);
     settle_all(t, new, b, u, three);
 }
 
@@ -105,39 +79,24 @@ pub fn join(t: &mut [u64], b: usize, u: Runs, three: bool)
     requires { Table three b u t.old }
     ensures { Joined three b u t.old t.new }
 {
-    if u.new <= 64 {
-        let mut new = [0; 256];
-        return join_by(t, &mut new, b, u, three);
+    match u.new {
+        0..=64 => join_by(t, &mut [0; 256], b, u, three),
+        65..=128 => join_by(t, &mut [0; 512], b, u, three),
+        _ => join_by(t, &mut [0; 2048], b, u, three),
     }
-    if u.new <= 128 {
-        let mut new = [0; 512];
-        return join_by(t, &mut new, b, u, three);
-    }
-    let mut new = [0; 2048];
-    join_by(t, &mut new, b, u, three)
 }
 
 // A row that is missing is put in: among the new ones, where it has its gap, or, where these are many, alone behind all others, merged.
-pub fn add(
-    t: &mut [u64],
-    b: usize,
-    u: Runs,
-    three: bool,
-    gap: usize,
-    x: u64,
-    y: u64,
-    z: u64,
-    w: u64,
-) -> Added
-    requires table { (Table three b u t.old) × (4 * (b + size u) + 3 < length t.old) }
-    requires missing { Missing three b u x y z t.old gap }
-    ensures { Grown three b u (row x y z w) t.old t.new result }
+pub fn add(t: &mut [u64], b: usize, u: Runs, gap: usize, key: RowKey, w: u64) -> Added
+    requires table { (Table key.three b u t.old) × (4 * (b + size u) + 3 < length t.old) }
+    requires missing { Missing key.three b u key.x key.y key.z t.old gap }
+    ensures { Grown key.three b u (row key.x key.y key.z w) t.old t.new result }
 {
     let n = u.old + u.new;
     if u.new < most_new(u.old) {
         let at = u.old + gap;
         crate::shift(t, b + at, b + n, 1);
-        crate::put_row(t, b + at, x, y, z, w);
+        crate::put_row(t, b + at, key.x, key.y, key.z, w);
         return Added {
             runs: Runs {
                 old: u.old,
@@ -146,8 +105,8 @@ pub fn add(
             at,
         };
     }
-    join(t, b, u, three);
-    crate::put_row(t, b + n, x, y, z, w);
+    join(t, b, u, key.three);
+    crate::put_row(t, b + n, key.x, key.y, key.z, w);
     Added {
         runs: Runs { old: n, new: 1 },
         at: n,
@@ -161,16 +120,16 @@ fn seek_new(t: &[u64], b: usize, n: usize, i: usize, k: usize, three: bool) -> P
     ensures { SeekNew three b n t.now (row_at t.now (b + n + i)) result }
 {
     let p = 4 * (b + n + i);
-    let x = t[p];
-    let y = t[p + 1];
-    let z = t[p + 2];
-    if crate::less(t, b + k, three, x, y, z) {
-        return crate::seek(t, b, n, k + 1, three, x, y, z);
+    let (x, y, z) = (t[p], t[p + 1], t[p + 2]);
+    let key = RowKey { three, x, y, z };
+    if crate::less(t, b + k, key) {
+        return crate::seek(t, b, n, k + 1, key);
     }
-    if crate::same(t, b + k, three, x, y, z) {
-        return Place::At(k);
+    if crate::same(t, b + k, key) {
+        Ok(k)
+    } else {
+        Err(k)
     }
-    Place::Gap(k)
 }
 
 // Whether the rows of a table rise, where those of each run do: whether no new row is among those in order.
@@ -182,19 +141,13 @@ pub fn apart(t: &[u64], b: usize, u: Runs, three: bool) -> bool
     ensures { Says result (Rising (Before three) (table_of three b u t.now)) }
 {
     let mut k = 0;
-    let mut i = 0;
-    while i < u.new {
+    for i in 0..u.new {
         if u.old <= k {
             return true;
         }
         match seek_new(t, b, u.old, i, k, three) {
-            Place::At(_) => {
-                return false;
-            }
-            Place::Gap(g) => {
-                k = g;
-                i += 1;
-            }
+            Ok(_) => return false,
+            Err(gap) => k = gap,
         }
     }
     true

@@ -1,8 +1,8 @@
 -- Each call but the tick keeps the invariant.
+use Rattle.std.specs.Prelude.{Option, None, Some}
 use mathlib.Core.Path.{◌≡◌, refl, sym, ◌∙◌, ap, subst}
 use mathlib.Core.Logic.{◌≢◌}
 use mathlib.Core.List.{List, [], ◌∷◌, ◌++◌, map, append_assoc}
-use mathlib.Core.Option.{Option, none, some}
 use mathlib.Core.Bool.{Bool, true, false, not, ◌&&◌, cond}
 use Prim.Native.Nat.{ℕ, zero, suc, ◌+◌, ◌-◌, ◌≤◌, ◌<◌}
 use native.Mathlib.Omega.{arith}
@@ -10,7 +10,7 @@ use lib.Dec.{leb, ltb, eqb}
 use lib.ListN.{length, get_or, length-append, length-map}
 use lib.Seq.{get_or-append_seam, get_or-append-add}
 use Rattle.rules.specs.declared.Item.{Item}
-use Rattle.rules.specs.Lists.{Each, Rising, any, first, keep, nil}
+use Rattle.rules.specs.Lists.{Each, Rising, any, keep, nil}
 use Rattle.rules.specs.Quantities.{Key, area_items, max_count, no_key, print_out, same, snapshot_out, within}
 use Rattle.rules.specs.Log.{clear, end, keys, stamp}
 use Rattle.rules.specs.Prints.{applied_in, apply_print, counted, delivered_in, remove_counts}
@@ -25,8 +25,6 @@ use Rattle.rules.proofs.Order.{same_true}
 use Rattle.rules.proofs.Invariant.{Agree, ConnOk, Good, GoodM, GoodW, LineOk, Sorted, Suffix, clear-good, end_is, keys_of, lines-good, set_conn-good, sorted-map}
 use Rattle.rules.proofs.Moves.{push_out-good, push_out-grown, put_out-good, replace-other, replace-same}
 use Rattle.rules.proofs.Sweep.{all_more, here, sweep-good, take_over-good, try_line_up-good}
-use Rattle.rules.specs.declared.Item.TheVariants as Item
-use Rattle.rules.specs.declared.Stamp.TheVariants as Stamp
 
 pub events-snap : (is : List Item) (t msg : ℕ) → events (is ++ (Item.Snapshot t msg ∷ [])) ≡ events is
 events-snap [] t msg = refl
@@ -72,31 +70,31 @@ subscribed-each P c limit now (y ∷ ys) p e = by_cond (Each P) (ltb c y.conn) (
     (λ q. by_cond (Each P) (eqb y.conn c) (λ r. (p, e.1)) (λ r. (e.0, subscribed-each P c limit now ys p e.1)))
 
 -- who takes over has a claim
-pub source-law : (ls : List Connection) (i : ℕ) (x : ℕ × (ℕ × ℕ)) → source i ls ≡ some x
-    → (k : ℕ) × (x.0 ≡ i + k) × (k < length ls) × (claim (get_or ls k nobody).line ≡ some x.1)
+pub source-law : (ls : List Connection) (i : ℕ) (x : ℕ × (ℕ × ℕ)) → source i ls ≡ Some x
+    → (k : ℕ) × (x.0 ≡ i + k) × (k < length ls) × (claim (get_or ls k nobody).line ≡ Some x.1)
 unfolding source
 source-law [] i x e = absurd (none≢some e)
 source-law (y ∷ ys) i x e = go (claim y.line) refl (source (suc i) ys) (λ z h. source-law ys (suc i) z h) e
   where
     Res : Type 0
-    Res = (k : ℕ) × (x.0 ≡ i + k) × (k < suc (length ys)) × (claim (get_or (y ∷ ys) k nobody).line ≡ some x.1)
+    Res = (k : ℕ) × (x.0 ≡ i + k) × (k < suc (length ys)) × (claim (get_or (y ∷ ys) k nobody).line ≡ Some x.1)
 
-    first : (v : ℕ × ℕ) → claim y.line ≡ some v → ◌≡◌ {A = Option (ℕ × (ℕ × ℕ))} (some (i, v)) (some x) → Res
-    first v c h = let q : (i, v) ≡ x = cc in (0, (let z : i ≡ x.0 = ap (λ t. t.0) q in omega arith), omega arith, c ∙ ap {B = Option (ℕ × ℕ)} (λ (t : ℕ × (ℕ × ℕ)). some t.1) q)
+    first : (v : ℕ × ℕ) → claim y.line ≡ Some v → ◌≡◌ {A = Option (ℕ × (ℕ × ℕ))} (Some (i, v)) (Some x) → Res
+    first v c h = let q : (i, v) ≡ x = cc in (0, (let z : i ≡ x.0 = ap (λ t. t.0) q in omega arith), omega arith, c ∙ ap {B = Option (ℕ × ℕ)} (λ (t : ℕ × (ℕ × ℕ)). Some t.1) q)
 
-    later : (o : Option (ℕ × (ℕ × ℕ))) → ((z : ℕ × (ℕ × ℕ)) → o ≡ some z → (k : ℕ) × (z.0 ≡ suc i + k) × (k < length ys) × (claim (get_or ys k nobody).line ≡ some z.1))
-        → o ≡ some x → Res
+    later : (o : Option (ℕ × (ℕ × ℕ))) → ((z : ℕ × (ℕ × ℕ)) → o ≡ Some z → (k : ℕ) × (z.0 ≡ suc i + k) × (k < length ys) × (claim (get_or ys k nobody).line ≡ Some z.1))
+        → o ≡ Some x → Res
     later o f h = let r = f x h in (suc r.0, (let z = r.1 in omega arith), (let z = r.2 in omega arith), r.3)
 
     go : (c : Option (ℕ × ℕ)) → claim y.line ≡ c → (o : Option (ℕ × (ℕ × ℕ)))
-        → ((z : ℕ × (ℕ × ℕ)) → o ≡ some z → (k : ℕ) × (z.0 ≡ suc i + k) × (k < length ys) × (claim (get_or ys k nobody).line ≡ some z.1))
-        → better i c o ≡ some x → Res
-    go none c o f h = later o f h
-    go (some v) c none f h = first v c h
-    go (some v) c (some u) f h = pick (below v u.1) h
+        → ((z : ℕ × (ℕ × ℕ)) → o ≡ Some z → (k : ℕ) × (z.0 ≡ suc i + k) × (k < length ys) × (claim (get_or ys k nobody).line ≡ Some z.1))
+        → better i c o ≡ Some x → Res
+    go None c o f h = later o f h
+    go (Some v) c None f h = first v c h
+    go (Some v) c (Some u) f h = pick (below v u.1) h
       where
-        pick : (b : Bool) → cond b (some u) (some (i, v)) ≡ some x → Res
-        pick true h' = later (some u) f h'
+        pick : (b : Bool) → cond b (Some u) (Some (i, v)) ≡ Some x → Res
+        pick true h' = later (Some u) f h'
         pick false h' = first v c h'
 
 module _ (s : ℕ) (B : List (ℕ × Key)) (E : ℕ → ℕ) where
@@ -183,7 +181,7 @@ module _ (s : ℕ) (B : List (ℕ × Key)) (E : ℕ → ℕ) where
       let lt = here i m (Waiting is since) e refl in
       let suf : Suffix (event_keys is') (T (conn_at i m).conn) = rw (events-snap is t msg) (ok_at T m g i (Waiting is since) e refl) in
       let x₁ = did apply [] (take_over i is' now (begin m)) in
-      let x₂ = released held now (try_line_up false i now (begin (set_line i (Pending is' (Stamp.At now) now) m))) in
+      let x₂ = released held now (try_line_up false i now (begin (set_line i (Pending is' (Some now) now) m))) in
       let x₃ = just held (set_line i (Waiting is' since) m) in
       let o = cond (someone m.lines) (cond (any (snapshot_of 0) is' && any (snapshot_of 1) is') x₂ x₃) x₁ in
       refuse-fine (λ a. T) (leb (area_items m.limits) (length is)) 6 (refuse (full_log m) 5 (refuse (full_numbers m) 9 o))
@@ -191,9 +189,9 @@ module _ (s : ℕ) (B : List (ℕ × Key)) (E : ℕ → ℕ) where
       (refuse-fine (λ a. T) (full_numbers m) 9 o
       (by_cond (Fine (λ a. T)) (someone m.lines)
       (λ q. by_cond (Fine (λ a. T)) (any (snapshot_of 0) is' && any (snapshot_of 1) is')
-      (λ r. released-fine (λ a. T) T held now (try_line_up false i now (begin (set_line i (Pending is' (Stamp.At now) now) m))) refl refl
-      (try_line_up-good s B T E false i now (begin (set_line i (Pending is' (Stamp.At now) now) m))
-      (begin-good T (set_line i (Pending is' (Stamp.At now) now) m) (set-good T m g i (Pending is' (Stamp.At now) now) (conn_at i m).held lt suf))))
+      (λ r. released-fine (λ a. T) T held now (try_line_up false i now (begin (set_line i (Pending is' (Some now) now) m))) refl refl
+      (try_line_up-good s B T E false i now (begin (set_line i (Pending is' (Some now) now) m))
+      (begin-good T (set_line i (Pending is' (Some now) now) m) (set-good T m g i (Pending is' (Some now) now) (conn_at i m).held lt suf))))
       (λ r. begin-good T (set_line i (Waiting is' since) m) (set-good T m g i (Waiting is' since) (conn_at i m).held lt suf)))
       (λ q. take_over-good s B T E i is' now (begin m) lt suf (begin-good T m g)))))
 
@@ -362,7 +360,7 @@ module _ (s : ℕ) (B : List (ℕ × Key)) (E : ℕ → ℕ) where
       (λ q. refuse-fine (λ a. T) t₇ 7 (refuse t₈ 8 o) (refuse-fine (λ a. T) t₈ 8 o (print_counted-fine T i c k msg d a m₁ (conn_at i m).line refl g)))
 
   -- ---- Promote, Drop
-  claim-suffix : (O t : List Key) (e : ℕ) (l : Line) (x : ℕ × ℕ) → claim l ≡ some x → LineOk s O t e l → Suffix (event_keys (items_of l)) t
+  claim-suffix : (O t : List Key) (e : ℕ) (l : Line) (x : ℕ × ℕ) → claim l ≡ Some x → LineOk s O t e l → Suffix (event_keys (items_of l)) t
   claim-suffix O t e (Waiting is since) x h ok = ok
   claim-suffix O t e (Pending is at since) x h ok = ok
   claim-suffix O t e (InLine n a b) x h ok = absurd (none≢some h)
@@ -378,7 +376,7 @@ module _ (s : ℕ) (B : List (ℕ × Key)) (E : ℕ → ℕ) where
       (λ x h. let r = source-law m.lines 0 x h in
       let e : x.0 ≡ r.0 = let z = r.1 in omega arith in
       let lt : x.0 < length m.lines = let z = r.2 in omega arith in
-      let cl : claim (conn_at x.0 m).line ≡ some x.1 = subst (λ j. claim (get_or m.lines j nobody).line ≡ some x.1) (sym e) r.3 in
+      let cl : claim (conn_at x.0 m).line ≡ Some x.1 = subst (λ j. claim (get_or m.lines j nobody).line ≡ Some x.1) (sym e) r.3 in
       sweep-good s B T E now (take_over x.0 (items_of (conn_at x.0 m).line) now (begin m'))
       (take_over-good s B T E x.0 (items_of (conn_at x.0 m).line) now (begin m') lt
       (claim-suffix (keys_of B) (T (conn_at x.0 m).conn) (E (conn_at x.0 m).conn) (conn_at x.0 m).line x.1 cl

@@ -9,7 +9,6 @@ use lib.ListN.{length, get_or, take, drop, length-map, take-append-drop}
 use lib.Seq.{take_at, drop_at}
 use Rattle.rules.specs.declared.Applied.{Applied}
 use Rattle.rules.specs.declared.Kind.{Kind}
-use Rattle.rules.specs.declared.Kind.TheVariants as Kind
 use Rattle.rules.specs.Lists.{Each, In, Rising, any, index}
 use Rattle.rules.specs.Quantities.{Key, same}
 use Rattle.rules.specs.Log.{end, keys}
@@ -22,7 +21,6 @@ use Rattle.rules.proofs.ListLaws.{each-imp}
 use Rattle.rules.proofs.Order.{same-itself, same_true, same_pair, same_pair-itself, same_pair-true}
 use Rattle.rules.proofs.Tables.{news-mono}
 use Rattle.rules.proofs.Invariant.{Sorted, end_is}
-use Rattle.rules.proofs.Sweep.{here}
 use Rattle.rules.proofs.History.{GoodH, agreed, in-line-agrees, numbers-count, run-good, set_up-good}
 use Rattle.rules.proofs.Still.{line_in}
 use Rattle.rules.proofs.Going.{Calm, CalmLine, Fits, Going, counting, new_keys, new_pairs, print_keys, print_pairs, printing, room_of, seen_key, seen_pair}

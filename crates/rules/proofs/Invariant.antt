@@ -14,15 +14,12 @@ use Rattle.rules.specs.declared.Kind.{Kind}
 use Rattle.rules.specs.Lists.{Each, Rising}
 use Rattle.rules.specs.Quantities.{Key}
 use Rattle.rules.specs.Log.{keys}
-use Rattle.rules.specs.Prints.{before}
 use Rattle.rules.specs.Lines.{Connection, Failed, InLine, Line, Market, Pending, Waiting, event_keys, is_failed, nobody, with_held, with_line}
 use Rattle.rules.specs.Entering.{Work}
-use Rattle.rules.specs.Calls.{gone}
 use Rattle.rules.specs.Sound.{Lower}
 use Rattle.rules.specs.Demand.{books, if_book, now_entered}
 use Rattle.rules.proofs.Tests.{either, ltb-false, ltb-true}
 use Rattle.rules.proofs.ListLaws.{append-nil, each_at, each-imp, each_map, each_set, map-append}
-use Rattle.rules.specs.declared.Kind.TheVariants as Kind
 
 -- ---- lines rise by connection
 

@@ -1,7 +1,7 @@
 -- Laws of lists: what holds of each element, and of the lists with tests.
+use Rattle.std.specs.Prelude.{Some}
 use mathlib.Core.Path.{◌≡◌, refl, ◌∙◌, ap, subst}
 use mathlib.Core.List.{List, [], ◌∷◌, ◌++◌, map}
-use mathlib.Core.Option.{some}
 use mathlib.Core.Bool.{Bool, true, false, ◌||◌}
 use Prim.Native.Nat.{ℕ, zero, suc, ◌+◌, ◌≤◌, ◌<◌}
 use native.Mathlib.Omega.{arith}
@@ -47,7 +47,7 @@ module _ {A : Type 0} where
   append-nil [] = refl
   append-nil (x ∷ xs) = ap {B = List A} (λ r. x ∷ r) (append-nil xs)
 
-  pub only-in : (P : A → Type 0) (l : List A) (a : A) → only l ≡ some a → Each P l → P a
+  pub only-in : (P : A → Type 0) (l : List A) (a : A) → only l ≡ Some a → Each P l → P a
   only-in P [] a e h = absurd (let z : ◌≡◌ {A = ℕ} 0 1 = cc in omega arith)
   only-in P (x ∷ []) a e h = let q : x ≡ a = cc in subst P q h.0
   only-in P (x ∷ y ∷ l) a e h = absurd (let z : ◌≡◌ {A = ℕ} 0 1 = cc in omega arith)

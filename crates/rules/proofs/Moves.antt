@@ -1,8 +1,8 @@
 -- What a call does on the way keeps the invariant: pushes, release, entering line, take-over, line-up, sweep.
+use Rattle.std.specs.Prelude.{Option, None, Some}
 use mathlib.Core.Path.{◌≡◌, refl, sym, ◌∙◌, ap, subst}
 use mathlib.Core.Logic.{◌≢◌}
 use mathlib.Core.List.{List, [], ◌∷◌, ◌++◌, map, append_assoc}
-use mathlib.Core.Option.{Option, none, some}
 use mathlib.Core.Bool.{Bool, true, false, ◌&&◌, ◌||◌, cond}
 use Prim.Native.Nat.{ℕ, suc, ◌+◌, ◌-◌, ◌≤◌, ◌<◌}
 use native.Mathlib.Omega.{arith}
@@ -23,7 +23,6 @@ use Rattle.rules.proofs.Tests.{by_cond, eqb-other, eqb_same, ff≢tt, none≢som
 use Rattle.rules.proofs.ListLaws.{append-nil, each_append, each-count, each-kept, each_map, map-append, only-in}
 use Rattle.rules.proofs.Order.{same_true}
 use Rattle.rules.proofs.Invariant.{Agree, Good, GoodW, books-append, keys_of, push-good, set_conn-good}
-use Rattle.rules.specs.declared.Item.TheVariants as Item
 
 pub entered-snoc : (l : List (ℕ × ℕ)) (x : ℕ × ℕ) (E : ℕ → ℕ) → now_entered (l ++ (x ∷ [])) E ≡ replace (now_entered l E) x.0 x.1
 unfolding now_entered
@@ -138,30 +137,30 @@ put_items-grown c now (Item.Event k msg ∷ is) w = grown-then (push_out-grown c
 
 -- ---- places
 
-pub fits-law : (xs ys : List Key) (n : ℕ) → fits xs ys ≡ some n → (b : List Key) × (ys ++ drop (length ys) xs ≡ xs ++ b)
+pub fits-law : (xs ys : List Key) (n : ℕ) → fits xs ys ≡ Some n → (b : List Key) × (ys ++ drop (length ys) xs ≡ xs ++ b)
 unfolding fits
 fits-law [] ys n e = (ys, ap (λ (o : List Key). ys ++ o) (drop-nil (length ys)) ∙ append-nil ys)
 fits-law (x ∷ xs) [] n e = ([], sym (append-nil (x ∷ xs)))
 fits-law (x ∷ xs) (y ∷ ys) n e = go (same x y) refl (fits xs ys) (λ m h. fits-law xs ys m h) e
   where
-    go : (b : Bool) → same x y ≡ b → (o : Option ℕ) → ((m : ℕ) → o ≡ some m → (b : List Key) × (ys ++ drop (length ys) xs ≡ xs ++ b))
-        → cond b (maybe none (λ m. some (suc m)) o) none ≡ some n → (b : List Key) × (y ∷ (ys ++ drop (length ys) xs) ≡ x ∷ (xs ++ b))
+    go : (b : Bool) → same x y ≡ b → (o : Option ℕ) → ((m : ℕ) → o ≡ Some m → (b : List Key) × (ys ++ drop (length ys) xs ≡ xs ++ b))
+        → cond b (maybe None (λ m. Some (suc m)) o) None ≡ Some n → (b : List Key) × (y ∷ (ys ++ drop (length ys) xs) ≡ x ∷ (xs ++ b))
     go false q o f h = absurd (none≢some h)
-    go true q none f h = absurd (none≢some h)
-    go true q (some m) f h = let (b, r) = f m refl in (b, let z : x ≡ y = same_true x y q in cc)
+    go true q None f h = absurd (none≢some h)
+    go true q (Some m) f h = let (b, r) = f m refl in (b, let z : x ≡ y = same_true x y q in cc)
 
-counts-fits : (quiet : Bool) (hs ks : List Key) (p : Place) → counts quiet hs ks p ≡ true → (n : ℕ) × (fits (drop p.0 hs) (drop p.1 ks) ≡ some n)
+counts-fits : (quiet : Bool) (hs ks : List Key) (p : Place) → counts quiet hs ks p ≡ true → (n : ℕ) × (fits (drop p.0 hs) (drop p.1 ks) ≡ Some n)
 unfolding counts
 counts-fits quiet hs ks p e = go (fits (drop p.0 hs) (drop p.1 ks)) refl e
   where
     go : (o : Option ℕ) → fits (drop p.0 hs) (drop p.1 ks) ≡ o
         → maybe false (λ n. leb 4 n || quiet && eqb (p.1 + n) (length ks) && eqb (p.0 + n) (length hs)) o ≡ true
-        → (n : ℕ) × (fits (drop p.0 hs) (drop p.1 ks) ≡ some n)
-    go none q h = absurd (ff≢tt refl h)
-    go (some n) q h = (n, q)
+        → (n : ℕ) × (fits (drop p.0 hs) (drop p.1 ks) ≡ Some n)
+    go None q h = absurd (ff≢tt refl h)
+    go (Some n) q h = (n, q)
 
-pub alignment-fits : (quiet : Bool) (hs ks : List Key) (p : Place) → alignment quiet hs ks ≡ some p
-    → (p.1 ≤ length ks) × ((n : ℕ) × (fits (drop p.0 hs) (drop p.1 ks) ≡ some n))
+pub alignment-fits : (quiet : Bool) (hs ks : List Key) (p : Place) → alignment quiet hs ks ≡ Some p
+    → (p.1 ≤ length ks) × ((n : ℕ) × (fits (drop p.0 hs) (drop p.1 ks) ≡ Some n))
 unfolding alignment
 alignment-fits quiet hs ks p e =
     let P : Place → Type 0 = λ q. q.1 ≤ length ks in
@@ -170,8 +169,8 @@ alignment-fits quiet hs ks p e =
     (each_map (λ i. (1 ≤ i) × (i < 1 + (length hs - 1))) P (λ j. (j, 0)) (λ i h. omega arith) (count 1 (length hs - 1)) (each-count 1 (length hs - 1))) in
     go all (nil hs || nil ks) e
   where
-    go : Each (λ (q : Place). q.1 ≤ length ks) (places hs ks) → (b : Bool) → cond b none (only (keep (counts quiet hs ks) (places hs ks))) ≡ some p
-        → (p.1 ≤ length ks) × ((n : ℕ) × (fits (drop p.0 hs) (drop p.1 ks) ≡ some n))
+    go : Each (λ (q : Place). q.1 ≤ length ks) (places hs ks) → (b : Bool) → cond b None (only (keep (counts quiet hs ks) (places hs ks))) ≡ Some p
+        → (p.1 ≤ length ks) × ((n : ℕ) × (fits (drop p.0 hs) (drop p.1 ks) ≡ Some n))
     go all true h = absurd (none≢some h)
     go all false h =
         let r = only-in (λ (q : Place). (q.1 ≤ length ks) × (counts quiet hs ks q ≡ true)) (keep (counts quiet hs ks) (places hs ks)) p h

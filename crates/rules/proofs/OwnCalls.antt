@@ -6,7 +6,7 @@ use Prim.Native.Nat.{ℕ, suc, ◌≤◌, ◌<◌}
 use native.Mathlib.Omega.{arith}
 use lib.Dec.{eqb}
 use Rattle.rules.specs.declared.Applied.{Applied}
-use Rattle.rules.specs.Lists.{Each, any, first, keep}
+use Rattle.rules.specs.Lists.{Each, any, keep}
 use Rattle.rules.specs.Quantities.{Key, book_out, same}
 use Rattle.rules.specs.Refusals.{BookEvent, Call, Drop, Print, Promote, Reset, Snapshot, Subscribe, Tick}
 use Rattle.rules.specs.Demand.{caller, event_key, events_of, is_print, own, own_book, own_books, own_print, own_prints, prints_by, timeless}

@@ -1,7 +1,7 @@
 -- Laws of the two print tables: what is in them, their lengths, counts and order after a print, an apply, an expiry.
+use Rattle.std.specs.Prelude.{Some}
 use mathlib.Core.Path.{◌≡◌, refl, sym, ◌∙◌, ap}
 use mathlib.Core.List.{List, [], ◌∷◌}
-use mathlib.Core.Option.{some}
 use mathlib.Core.Bool.{Bool, true, false, ◌&&◌, ◌||◌, cond}
 use Prim.Native.Nat.{ℕ, suc, ◌≤◌, ◌<◌}
 use native.Mathlib.Omega.{arith}
@@ -141,7 +141,7 @@ deliver-small k c rs {n} lt h = by_cond (Each Small) (any (of_pair k c) rs) (λ 
     raised [] t e = tt
     raised (x ∷ xs) t e = go (of_pair k c x) t (λ u. raised xs u e.1)
       where
-        go : (b : Bool) → maybe 0 (λ y. y.delivered) (cond b (some x) (first (of_pair k c) xs)) < n → (delivered_in k c xs < n → Each Small (amend (of_pair k c) up xs))
+        go : (b : Bool) → maybe 0 (λ y. y.delivered) (cond b (Some x) (first (of_pair k c) xs)) < n → (delivered_in k c xs < n → Each Small (amend (of_pair k c) up xs))
             → Each Small (cond b (up x ∷ xs) (x ∷ amend (of_pair k c) up xs))
         go true u ih = (u, e.1)
         go false u ih = (e.0, ih u)

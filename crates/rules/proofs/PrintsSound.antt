@@ -1,7 +1,7 @@
 -- The print tables stay sound: after an apply, a print that is not refused, a removal of counts, an expiry.
+use Rattle.std.specs.Prelude.{Option}
 use mathlib.Core.Path.{◌≡◌, refl, ◌∙◌, ap}
 use mathlib.Core.List.{List, [], ◌∷◌}
-use mathlib.Core.Option.{Option}
 use mathlib.Core.Bool.{Bool, true, false, not, ◌&&◌, ◌||◌, cond}
 use Prim.Native.Nat.{ℕ, suc, ◌≤◌, ◌<◌}
 use native.Mathlib.Omega.{arith}
@@ -11,7 +11,6 @@ use Rattle.rules.specs.declared.Limits.{Limits}
 use Rattle.rules.specs.Lists.{Each, any, keep, maybe}
 use Rattle.rules.specs.Quantities.{Key, age, max_count, other_keep, same}
 use Rattle.rules.specs.Prints.{CountRow, KeyRow, Prints, apply_print, counted, deliver, delivered_in, expire_prints, of_key, of_other, of_pair, remove_counts, set_applied, touch}
-use Rattle.rules.specs.Place.{fits}
 use Rattle.rules.specs.Calls.{no_row}
 use Rattle.rules.specs.Sound.{CountLess, KeyLess, PrintsSound, TablesSound}
 use Rattle.rules.proofs.Tests.{by_cond, leb-false, or-false-left, or-false-right}

@@ -1,7 +1,7 @@
 -- Each call but the tick leaves a sound market sound, and puts out no more records than the room asked for.
+use Rattle.std.specs.Prelude.{Some}
 use mathlib.Core.Path.{◌≡◌, refl, ap, subst}
 use mathlib.Core.List.{List, [], ◌∷◌, ◌++◌, map}
-use mathlib.Core.Option.{none}
 use mathlib.Core.Bool.{Bool, true, false, not, ◌&&◌, ◌||◌, cond}
 use Prim.Native.Nat.{ℕ, zero, suc, ◌+◌, ◌-◌, ◌*◌, ◌≤◌, ◌<◌}
 use native.Mathlib.Omega.{arith}
@@ -15,7 +15,6 @@ use Rattle.rules.specs.Quantities.{Key, area_items, max_count, max_number, no_ke
 use Rattle.rules.specs.Log.{clear, end, keys, old, stamp}
 use Rattle.rules.specs.Prints.{applied_in, counted, delivered_in, remove_counts}
 use Rattle.rules.specs.Lines.{Connection, Failed, InLine, Line, Market, Pending, Waiting, conn_at, is_failed, is_in_line, item_count, items_of, line_of, nobody, set_conn, set_line, snapshot_of, someone, subscribed, waiting, with_line, with_lines, with_log, with_prints}
-use Rattle.rules.specs.Place.{fits}
 use Rattle.rules.specs.Entering.{Work, begin, on_market, push_out, put_out, sweep, take_over, try_line_up}
 use Rattle.rules.specs.Calls.{Answer, Outcome, apply, book_event, did, diverged, done, drop_conn, due_ends, due_for, duplicate, failed, full_log, full_numbers, gone, held, hold_print, ignored, just, kept, no_row, pending_anew, print, print_counted, promote, refuse, refused, released, reset, snapshot, source, subscribe}
 use Rattle.rules.specs.Tick.{all_out, out_of_line}
@@ -29,7 +28,6 @@ use Rattle.rules.proofs.Sweep.{here}
 use Rattle.rules.proofs.CallsKept.{events-snap, source-law, subscribed-each, subscribed-sorted}
 use Rattle.rules.proofs.SoundMoves.{Bound, SoundW, conn-limit, events-le, grow-conns, holdings-bound, set_conn-sound, sweep_sound, take_over-sound, try_line_up-sound}
 use Rattle.rules.specs.declared.Item.TheVariants as Item
-use Rattle.rules.specs.declared.Stamp.TheVariants as Stamp
 
 pub holdings-fit : (m : Market) → Sound m → holdings m.lines + 1 ≤ room_needed m.limits
 holdings-fit m s =
@@ -111,14 +109,14 @@ subscribed-length c limit now (x ∷ xs) o = go (ltb c x.conn) refl (eqb x.conn 
     v : Connection
     v = waiting c limit now
 
-    none : ltb c x.conn ≡ true → any (λ s. eqb s.conn c) (x ∷ xs) ≡ false
-    none p = let lt : c < x.conn = ltb-true p in none_above c (x ∷ xs) (lt, each-imp (λ y. x.conn < y.conn) (λ y. c < y.conn) (λ y t. omega arith) xs o.0)
+    lower : ltb c x.conn ≡ true → any (λ s. eqb s.conn c) (x ∷ xs) ≡ false
+    lower p = let lt : c < x.conn = ltb-true p in none_above c (x ∷ xs) (lt, each-imp (λ y. x.conn < y.conn) (λ y. c < y.conn) (λ y t. omega arith) xs o.0)
 
     go : (p : Bool) → ltb c x.conn ≡ p → (q : Bool) → eqb x.conn c ≡ q → (r : Bool) → any (λ s. eqb s.conn c) xs ≡ r
         → length (subscribed c limit now xs) ≤ cond r (length xs) (suc (length xs))
         → length (cond p (v ∷ x ∷ xs) (cond q (v ∷ xs) (x ∷ subscribed c limit now xs))) ≤ cond (q || r) (suc (length xs)) (suc (suc (length xs)))
-    go true p true q r t h = absurd (ff≢tt (or-false-left (eqb x.conn c) (any (λ s. eqb s.conn c) xs) (none p)) q)
-    go true p false q true t h = absurd (ff≢tt (or-false-right (eqb x.conn c) (any (λ s. eqb s.conn c) xs) (none p)) t)
+    go true p true q r t h = absurd (ff≢tt (or-false-left (eqb x.conn c) (any (λ s. eqb s.conn c) xs) (lower p)) q)
+    go true p false q true t h = absurd (ff≢tt (or-false-right (eqb x.conn c) (any (λ s. eqb s.conn c) xs) (lower p)) t)
     go true p false q false t h = omega arith
     go false p true q r t h = omega arith
     go false p false q true t h = omega arith
@@ -208,7 +206,7 @@ snapshot-safe i t msg now m (InLine n a b) tk e s =
     let m₀ = with_log (stamp now m.log) m in
     let s₀ : Sound m₀ = record { limits_fit = s.limits_fit; lines = s.lines; prints = s.prints } in
     let m₁ = set_line i (due_ends t n a b) m₀ in
-    let s₁ : Sound m₁ = shrink m₀ i (due_ends t n a b) (conn_at i m).held s₀ lt (less t (line_at m i (InLine n a b) e refl s)) (held_at m i lt s) (none t) in
+    let s₁ : Sound m₁ = shrink m₀ i (due_ends t n a b) (conn_at i m).held s₀ lt (less t (line_at m i (InLine n a b) e refl s)) (held_at m i lt s) (no_items t) in
     by_cond (Safe m.limits) (due_for t a b)
     (λ q. (
       sweep_sound (room_for m.limits) now (put_out (snapshot_out (conn_at i m).conn msg) (begin m₁))
@@ -221,9 +219,9 @@ snapshot-safe i t msg now m (InLine n a b) tk e s =
     less zero h = h
     less (suc t) h = h
 
-    none : (t : ℕ) → length (items_of (due_ends t n a b)) ≤ length (items_of (conn_at i m).line)
-    none zero = omega arith
-    none (suc t) = omega arith
+    no_items : (t : ℕ) → length (items_of (due_ends t n a b)) ≤ length (items_of (conn_at i m).line)
+    no_items zero = omega arith
+    no_items (suc t) = omega arith
 snapshot-safe i t msg now m (Waiting is since) tk e s =
     let l = m.limits in
     let is' = is ++ (Item.Snapshot t msg ∷ []) in
@@ -232,7 +230,7 @@ snapshot-safe i t msg now m (Waiting is since) tk e s =
     let il : length (items_of (conn_at i m).line) ≡ length is = ap (λ (z : Line). length (items_of z)) e in
     let ln : length is' ≡ length is + 1 = length-append is (Item.Snapshot t msg ∷ []) in
     let x₁ = did apply [] (take_over i is' now (begin m)) in
-    let x₂ = released held now (try_line_up false i now (begin (set_line i (Pending is' (Stamp.At now) now) m))) in
+    let x₂ = released held now (try_line_up false i now (begin (set_line i (Pending is' (Some now) now) m))) in
     let x₃ = just held (set_line i (Waiting is' since) m) in
     let o = cond (someone m.lines) (cond (any (snapshot_of 0) is' && any (snapshot_of 1) is') x₂ x₃) x₁ in
     refuse-safe l (leb (area_items l) (length is)) 6 (refuse (full_log m) 5 (refuse (full_numbers m) 9 o))
@@ -242,9 +240,9 @@ snapshot-safe i t msg now m (Waiting is since) tk e s =
     let new : (length is' ≤ l.H + 8) × Each Known is' = (omega arith, each_append Known is (Item.Snapshot t msg ∷ []) old.1 (tk, tt)) in
     by_cond (Safe l) (someone m.lines)
     (λ q. by_cond (Safe l) (any (snapshot_of 0) is' && any (snapshot_of 1) is')
-    (λ r. released-safe l held now (try_line_up false i now (begin (set_line i (Pending is' (Stamp.At now) now) m)))
-    (try_line_up-sound (room_for l) false i now (begin (set_line i (Pending is' (Stamp.At now) now) m))
-    (begin-sound (set_line i (Pending is' (Stamp.At now) now) m) (store m i (Pending is' (Stamp.At now) now) s lt new (omega arith) q₅ q₉))))
+    (λ r. released-safe l held now (try_line_up false i now (begin (set_line i (Pending is' (Some now) now) m)))
+    (try_line_up-sound (room_for l) false i now (begin (set_line i (Pending is' (Some now) now) m))
+    (begin-sound (set_line i (Pending is' (Some now) now) m) (store m i (Pending is' (Some now) now) s lt new (omega arith) q₅ q₉))))
     (λ r. just-safe (set_line i (Waiting is' since) m) held (store m i (Waiting is' since) s lt new (omega arith) q₅ q₉)))
     (λ q. (
       take_over-sound (room_for l) i is' now (begin m) lt
@@ -261,7 +259,7 @@ pushed-sound i k msg now m n a b lt il old s q₅ q₉ =
     let g₅ : length m.log.entries + item_count m.lines < m.limits.G = leb-false q₅ in
     let g₉ : end m.log + item_count m.lines < max_number = leb-false q₉ in
     let la : length (m.log.entries ++ ((k, now) ∷ [])) ≡ length m.log.entries + 1 = length-append m.log.entries ((k, now) ∷ []) in
-    let m₁ : Market = with_log (record { base = m.log.base; entries = m.log.entries ++ ((k, now) ∷ []); last = Stamp.At now }) m in
+    let m₁ : Market = with_log (record { base = m.log.base; entries = m.log.entries ++ ((k, now) ∷ []); last = Some now }) m in
     let s₁ : Sound m₁ = record {
       limits_fit = s.limits_fit;
       lines = record {

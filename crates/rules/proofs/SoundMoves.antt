@@ -1,7 +1,7 @@
 -- What a call does on the way leaves a sound market sound, and puts out no more than its lines held.
+use Rattle.std.specs.Prelude.{None, Some}
 use mathlib.Core.Path.{◌≡◌, refl, sym, ◌∙◌, ap, subst}
 use mathlib.Core.List.{List, [], ◌∷◌}
-use mathlib.Core.Option.{none, some}
 use mathlib.Core.Bool.{Bool, true, false, not, cond}
 use Prim.Native.Nat.{ℕ, zero, suc, ◌+◌, ◌-◌, ◌*◌, ◌≤◌, ◌<◌}
 use native.Mathlib.Omega.{arith}
@@ -14,7 +14,7 @@ use Rattle.rules.specs.Lists.{Each, any, maybe, sum}
 use Rattle.rules.specs.Quantities.{Key, book_out, max_number, print_out, snapshot_out}
 use Rattle.rules.specs.Log.{Log, end, keys, stamp}
 use Rattle.rules.specs.Prints.{applied_in, apply_print, delivered_in}
-use Rattle.rules.specs.Lines.{Connection, Failed, InLine, Line, Market, Pending, Waiting, conn_at, event_keys, events, fresh, item_count, items_of, nobody, set_conn, snapshot_of, some_due, with_held, with_line, with_log, with_prints}
+use Rattle.rules.specs.Lines.{Connection, Failed, InLine, Line, Market, Pending, Waiting, conn_at, event_keys, events, item_count, items_of, nobody, set_conn, snapshot_of, some_due, with_held, with_line, with_log, with_prints}
 use Rattle.rules.specs.Place.{Place, alignment}
 use Rattle.rules.specs.Entering.{Work, aligns, enter, line_up, note_entry, on_market, pendings, push_all, push_out, put_items, put_out, release, round, rounds, sweep, take_over, try_line_up}
 use Rattle.rules.specs.Sound.{holds, holdings, ConnSound, LimitSound, LineSound, LinesSound, PrintsSound, Sound}
@@ -25,7 +25,6 @@ use Rattle.rules.proofs.Invariant.{sorted-set}
 use Rattle.rules.proofs.Moves.{alignment-fits}
 use Rattle.rules.proofs.Sweep.{here}
 use Rattle.rules.proofs.Loops.{entered, release-lines}
-use Rattle.rules.specs.declared.Item.TheVariants as Item
 
 -- how much room there is for records, and the limits
 abbrev pub Bound : Type 0
@@ -233,7 +232,7 @@ try_line_up-sound Z quiet i now w s = go (conn_at i w.market).line refl
         let k = length-map w.market.log.entries (λ x. x.0) in
         line_up-sound Z i now p w (here i w.market (Pending is at since) e refl) (omega arith) s)
       where
-        un : (b : Bool) (p : Place) → cond b none (alignment quiet (event_keys is) (keys w.market.log)) ≡ some p → alignment quiet (event_keys is) (keys w.market.log) ≡ some p
+        un : (b : Bool) (p : Place) → cond b None (alignment quiet (event_keys is) (keys w.market.log)) ≡ Some p → alignment quiet (event_keys is) (keys w.market.log) ≡ Some p
         un true p h = absurd (none≢some h)
         un false p h = h
 

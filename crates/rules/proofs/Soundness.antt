@@ -1,4 +1,5 @@
 -- The tick leaves a sound market sound; so every call does, and its records and reports fit.
+use Rattle.std.specs.Prelude.{Option, None}
 use mathlib.Core.Path.{◌≡◌, refl, ◌∙◌, ap}
 use mathlib.Core.List.{List, [], ◌∷◌, ◌++◌, map}
 use mathlib.Core.Bool.{Bool, true, false, not, ◌&&◌, ◌||◌}
@@ -9,7 +10,6 @@ use lib.ListN.{length, get_or, drop, set, length-append, length-drop, length-map
 use Rattle.rules.specs.declared.Expired.{Expired}
 use Rattle.rules.specs.declared.Item.{Item}
 use Rattle.rules.specs.declared.Limits.{Limits}
-use Rattle.rules.specs.declared.Stamp.{Stamp}
 use Rattle.rules.specs.Lists.{Rising, is_some, nil}
 use Rattle.rules.specs.Quantities.{age, align_timeout, in_range, words_needed}
 use Rattle.rules.specs.Log.{end, old}
@@ -25,7 +25,6 @@ use Rattle.rules.proofs.PrintsSound.{expire_prints-sound}
 use Rattle.rules.proofs.Sweep.{here}
 use Rattle.rules.proofs.SoundMoves.{Bound, SoundW, enter-sound, events-le, grow-conns, pushed_none, sum-set, sweep_sound, take_over-sound, try_line_up-sound}
 use Rattle.rules.proofs.SoundCalls.{Safe, begin-sound, book-safe, drop-safe, just-safe, out-sound, print-safe, promote-safe, refuse-safe, reset-sound, room_for, shrink, snapshot-safe, subscribe-safe}
-use Rattle.rules.specs.declared.Stamp.TheVariants as Stamp
 
 abbrev pub SafeTurn : Bound → Turn → Type 0
 SafeTurn Z (on rs w) = SoundW Z w × (length rs ≤ 1)
@@ -63,7 +62,7 @@ pub map-holdings : (f : Connection → Connection) → ((x : Connection) → hol
 map-holdings f h [] = omega arith
 map-holdings f h (x ∷ xs) = let a = h x in let b = map-holdings f h xs in omega arith
 
-rebuild-safe : (Z : Bound) (i : ℕ) (is : List Item) (at : Stamp) (since now : ℕ) (w : Work) → (conn_at i w.market).line ≡ Pending is at since → SoundW Z w → SafeTurn Z (rebuild_from i is now w)
+rebuild-safe : (Z : Bound) (i : ℕ) (is : List Item) (at : Option ℕ) (since now : ℕ) (w : Work) → (conn_at i w.market).line ≡ Pending is at since → SoundW Z w → SafeTurn Z (rebuild_from i is now w)
 unfolding rebuild_from
 rebuild-safe Z i is at since now w e s =
     let m = w.market in
@@ -86,7 +85,7 @@ rebuild-safe Z i is at since now w e s =
     less (InLine n a b) h = omega arith
     less Failed h = omega arith
 
-quiet_line_up-safe : (Z : Bound) (i now : ℕ) (is : List Item) (at : Stamp) (since : ℕ) (w : Work) → (conn_at i w.market).line ≡ Pending is at since → SoundW Z w → SoundW Z (quiet_line_up i now is w)
+quiet_line_up-safe : (Z : Bound) (i now : ℕ) (is : List Item) (at : Option ℕ) (since : ℕ) (w : Work) → (conn_at i w.market).line ≡ Pending is at since → SoundW Z w → SoundW Z (quiet_line_up i now is w)
 unfolding quiet_line_up
 quiet_line_up-safe Z i now is at since w e s = by_cond (SoundW Z) (nil (events is))
     (λ q. let sp = s.spent in enter-sound Z w w 0 0 i (end w.market.log) (end w.market.log) false false s.limits s.sound (pushed_none w) (here i w.market (Pending is at since) e refl) (omega arith) (omega arith) (omega arith))
@@ -95,12 +94,12 @@ quiet_line_up-safe Z i now is at since w e s = by_cond (SoundW Z) (nil (events i
 put_one : (i : ℕ) (w w' : Work) → length (report_aligned i w w') ≤ 1
 put_one i w w' = by_cond (λ (r : List Expired). length r ≤ 1) (ltb (length w.out) (length w'.out)) (λ e. omega arith) (λ e. omega arith)
 
-pending-safe : (Z : Bound) (i : ℕ) (is : List Item) (at : Stamp) (since now : ℕ) (w : Work) → (conn_at i w.market).line ≡ Pending is at since → SoundW Z w → SafeTurn Z (time_out i is at since now w)
+pending-safe : (Z : Bound) (i : ℕ) (is : List Item) (at : Option ℕ) (since now : ℕ) (w : Work) → (conn_at i w.market).line ≡ Pending is at since → SoundW Z w → SafeTurn Z (time_out i is at since now w)
 unfolding time_out
 pending-safe Z i is at since now w e s = by_cond (SafeTurn Z) (leb align_timeout (age now since))
     (λ q. by-stamped (SafeTurn Z) at (fails-safe Z i w (Pending is at since) e refl s) (λ t. rebuild-safe Z i is at since now w e s)) (λ q. (s, omega arith))
 
-waiting-safe : (Z : Bound) (i : ℕ) (is : List Item) (since now : ℕ) (w : Work) → (conn_at i w.market).line ≡ Waiting is since → SoundW Z w → SafeTurn Z (time_out i is Stamp.Never since now w)
+waiting-safe : (Z : Bound) (i : ℕ) (is : List Item) (since now : ℕ) (w : Work) → (conn_at i w.market).line ≡ Waiting is since → SoundW Z w → SafeTurn Z (time_out i is None since now w)
 unfolding time_out
 waiting-safe Z i is since now w e s = by_cond (SafeTurn Z) (leb align_timeout (age now since)) (λ q. fails-safe Z i w (Waiting is since) e refl s) (λ q. (s, omega arith))
 

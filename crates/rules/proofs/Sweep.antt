@@ -1,7 +1,7 @@
 -- Take-over, line-up and sweep keep the invariant.
+use Rattle.std.specs.Prelude.{None, Some}
 use mathlib.Core.Path.{◌≡◌, refl, sym, ◌∙◌, ap, subst}
 use mathlib.Core.List.{List, [], ◌++◌, map, append_assoc}
-use mathlib.Core.Option.{none, some}
 use mathlib.Core.Bool.{Bool, true, false, not, cond}
 use Prim.Native.Nat.{ℕ, zero, suc, ◌+◌, ◌-◌, ◌≤◌, ◌<◌}
 use native.Mathlib.Omega.{arith}
@@ -12,7 +12,7 @@ use Rattle.rules.specs.declared.Item.{Item}
 use Rattle.rules.specs.Lists.{any, maybe}
 use Rattle.rules.specs.Quantities.{Key}
 use Rattle.rules.specs.Log.{end, keys}
-use Rattle.rules.specs.Lines.{Failed, InLine, Line, Market, Pending, Waiting, conn_at, event_keys, events, fresh, is_failed, items_of, nobody, snapshot_of, some_due}
+use Rattle.rules.specs.Lines.{Failed, InLine, Line, Market, Pending, Waiting, conn_at, event_keys, events, is_failed, items_of, nobody, snapshot_of, some_due}
 use Rattle.rules.specs.Place.{Place, alignment, fits}
 use Rattle.rules.specs.Entering.{Work, aligns, enter, line_up, pendings, push_all, put_items, round, rounds, sweep, take_over, try_line_up}
 use Rattle.rules.specs.Demand.{books, now_entered}
@@ -73,7 +73,7 @@ module _ (s : ℕ) (B : List (ℕ × Key)) (T : ℕ → List Key) (E : ℕ → �
       g'
 
   pub line_up-good : (i now : ℕ) (p : Place) (w : Work) (is : List Item) → items_of (conn_at i w.market).line ≡ is → i < length w.market.lines
-      → Suffix (event_keys is) (T (conn_at i w.market).conn) → p.1 ≤ length (keys w.market.log) → (n : ℕ) → fits (drop p.0 (event_keys is)) (drop p.1 (keys w.market.log)) ≡ some n
+      → Suffix (event_keys is) (T (conn_at i w.market).conn) → p.1 ≤ length (keys w.market.log) → (n : ℕ) → fits (drop p.0 (event_keys is)) (drop p.1 (keys w.market.log)) ≡ Some n
       → GoodW s B T E w → GoodW s B T E (line_up i now p w)
   unfolding line_up
   line_up-good i now p w is e lt suf le n f g = rw e (
@@ -125,7 +125,7 @@ module _ (s : ℕ) (B : List (ℕ × Key)) (T : ℕ → List Key) (E : ℕ → �
           line_up-good i now p w is (ap items_of e) (here i w.market (Pending is at since) e refl)
           (line_ok i w (Pending is at since) e refl g) q.0 q.1.0 q.1.1 g)
         where
-          un : (b : Bool) (p : Place) → cond b none (alignment quiet (event_keys is) (keys w.market.log)) ≡ some p → alignment quiet (event_keys is) (keys w.market.log) ≡ some p
+          un : (b : Bool) (p : Place) → cond b None (alignment quiet (event_keys is) (keys w.market.log)) ≡ Some p → alignment quiet (event_keys is) (keys w.market.log) ≡ Some p
           un true p h = absurd (none≢some h)
           un false p h = h
 

@@ -1,9 +1,9 @@
 -- Laws of a table: rows with an identity and a number, looked up by the first row that has the identity.
 -- And of what is new: how many rows a list of identities makes, whatever its order.
+use Rattle.std.specs.Prelude.{None, Some}
 use mathlib.Core.Path.{◌≡◌, refl, sym, ◌∙◌, ap, subst, fun_ext}
 use mathlib.Core.Logic.{◌⊎◌, inl, inr}
 use mathlib.Core.List.{List, [], ◌∷◌}
-use mathlib.Core.Option.{none, some}
 use mathlib.Core.Bool.{Bool, true, false, ◌||◌, cond}
 use Prim.Native.Nat.{ℕ, suc, ◌+◌, ◌≤◌}
 use native.Mathlib.Omega.{arith}
@@ -68,7 +68,7 @@ module _ {A I : Type 0} (id : A → I) (eq : I → I → Bool) (sound : (i j : I
     look_none i [] e = refl
     look_none i (x ∷ xs) e = go (is i x) refl (look_none i xs (or-false-right (is i x) (any (is i) xs) e))
       where
-        go : (b : Bool) → is i x ≡ b → look i xs ≡ 0 → maybe 0 val (cond b (some x) (first (is i) xs)) ≡ 0
+        go : (b : Bool) → is i x ≡ b → look i xs ≡ 0 → maybe 0 val (cond b (Some x) (first (is i) xs)) ≡ 0
         go true q h = absurd (ff≢tt (or-false-left (is i x) (any (is i) xs) e) q)
         go false q h = h
 
@@ -76,19 +76,19 @@ module _ {A I : Type 0} (id : A → I) (eq : I → I → Bool) (sound : (i j : I
         → look j (insert lt x l) ≡ cond (eq (id x) j) (val x) (look j l)
     look-insert lt j x [] e = go (eq (id x) j)
       where
-        go : (b : Bool) → maybe 0 val (cond b (some x) none) ≡ cond b (val x) 0
+        go : (b : Bool) → maybe 0 val (cond b (Some x) None) ≡ cond b (val x) 0
         go true = refl
         go false = refl
     look-insert lt j x (y ∷ ys) e = by_cond (λ r. look j r ≡ cond (eq (id x) j) (val x) (look j (y ∷ ys))) (lt x y)
         (λ q. front (eq (id x) j))
         (λ q. behind (eq (id y) j) refl (eq (id x) j) refl (look-insert lt j x ys (or-false-right (eq (id y) (id x)) (any (is (id x)) ys) e)))
       where
-        front : (b : Bool) → maybe 0 val (cond b (some x) (first (is j) (y ∷ ys))) ≡ cond b (val x) (look j (y ∷ ys))
+        front : (b : Bool) → maybe 0 val (cond b (Some x) (first (is j) (y ∷ ys))) ≡ cond b (val x) (look j (y ∷ ys))
         front true = refl
         front false = refl
 
         behind : (a : Bool) → eq (id y) j ≡ a → (b : Bool) → eq (id x) j ≡ b → look j (insert lt x ys) ≡ cond b (val x) (look j ys)
-            → maybe 0 val (cond a (some y) (first (is j) (insert lt x ys))) ≡ cond b (val x) (maybe 0 val (cond a (some y) (first (is j) ys)))
+            → maybe 0 val (cond a (Some y) (first (is j) (insert lt x ys))) ≡ cond b (val x) (maybe 0 val (cond a (Some y) (first (is j) ys)))
         behind true p true q h = absurd (ff≢tt (or-false-left (eq (id y) (id x)) (any (is (id x)) ys) e)
             (subst (λ z. eq (id y) z ≡ true) (sound (id y) j p ∙ sym (sound (id x) j q)) (itself (id y))))
         behind true p false q h = refl
@@ -101,10 +101,10 @@ module _ {A I : Type 0} (id : A → I) (eq : I → I → Bool) (sound : (i j : I
     look-amend f h i j (x ∷ xs) e v k = go (eq (id x) i) refl (eq (id x) j) refl (eq i j) refl k (λ q k'. look-amend f h i j xs q v k') e
       where
         go : (a : Bool) → eq (id x) i ≡ a → (b : Bool) → eq (id x) j ≡ b → (c : Bool) → eq i j ≡ c
-            → ((r : A) → maybe 0 val (cond a (some x) (first (is i) xs)) ≡ val r → val (f r) ≡ v)
+            → ((r : A) → maybe 0 val (cond a (Some x) (first (is i) xs)) ≡ val r → val (f r) ≡ v)
             → (any (is i) xs ≡ true → ((r : A) → look i xs ≡ val r → val (f r) ≡ v) → look j (amend (is i) f xs) ≡ cond (eq i j) v (look j xs))
             → (a || any (is i) xs) ≡ true
-            → look j (cond a (f x ∷ xs) (x ∷ amend (is i) f xs)) ≡ cond c v (maybe 0 val (cond b (some x) (first (is j) xs)))
+            → look j (cond a (f x ∷ xs) (x ∷ amend (is i) f xs)) ≡ cond c v (maybe 0 val (cond b (Some x) (first (is j) xs)))
         go true p true q true r k' ih e' = rw (h x, q) (k' x refl)
         go true p true q false r k' ih e' = absurd (ff≢tt r (subst (λ z. eq z j ≡ true) (sound (id x) i p) q))
         go true p false q true r k' ih e' = absurd (ff≢tt q (subst (λ z. eq z j ≡ true) (sym (sound (id x) i p)) r))

@@ -1,13 +1,11 @@
 -- Laws of tests: what a Bool that a definition tests says, and proofs by the branches that it picks.
+use Rattle.std.specs.Prelude.{Option, None, Some}
 use mathlib.Core.Path.{◌≡◌, refl, sym, subst}
 use mathlib.Core.Logic.{◌≢◌, ◌⊎◌, inl, inr}
-use mathlib.Core.Option.{Option, none, some}
 use mathlib.Core.Bool.{Bool, true, false, not, ◌&&◌, ◌||◌, cond}
 use Prim.Native.Nat.{ℕ, ◌≤◌, ◌<◌}
 use native.Mathlib.Omega.{arith}
 use lib.Dec.{T, leb, ltb, eqb, leb→le, nleb→lt, ltb→lt, nltb→le, eqb→eq, eqb_refl}
-use Rattle.rules.specs.declared.Stamp.{Stamp}
-use Rattle.rules.specs.declared.Stamp.TheVariants as Stamp
 use Rattle.rules.specs.Lists.{maybe}
 use Rattle.rules.specs.Quantities.{stamped, within}
 
@@ -61,9 +59,9 @@ pub by_cond : {A : Type 0} (P : A → Type 0) (b : Bool) {x y : A} → (b ≡ tr
 by_cond P true f g = f refl
 by_cond P false f g = g refl
 
-pub by-maybe : {A B : Type 0} (P : B → Type 0) (o : Option A) {b : B} {f : A → B} → P b → ((a : A) → o ≡ some a → P (f a)) → P (maybe b f o)
-by-maybe P none x g = x
-by-maybe P (some a) x g = g a refl
+pub by-maybe : {A B : Type 0} (P : B → Type 0) (o : Option A) {b : B} {f : A → B} → P b → ((a : A) → o ≡ Some a → P (f a)) → P (maybe b f o)
+by-maybe P None x g = x
+by-maybe P (Some a) x g = g a refl
 
 pub and-true-left : (a b : Bool) → (a && b) ≡ true → a ≡ true
 and-true-left true b e = refl
@@ -76,9 +74,9 @@ and-true-right false b e = absurd (ff≢tt refl e)
 pub within_both : (a b n : ℕ) → within a b n ≡ true → (a ≤ n) × (n ≤ b)
 within_both a b n e = (leb-true (and-true-left (leb a n) (leb n b) e), leb-true (and-true-right (leb a n) (leb n b) e))
 
-pub by-stamped : {B : Type 0} (P : B → Type 0) (o : Stamp) {b : B} {f : ℕ → B} → P b → ((t : ℕ) → P (f t)) → P (stamped b f o)
-by-stamped P Stamp.Never x g = x
-by-stamped P (Stamp.At t) x g = g t
+pub by-stamped : {B : Type 0} (P : B → Type 0) (o : Option ℕ) {b : B} {f : ℕ → B} → P b → ((t : ℕ) → P (f t)) → P (stamped b f o)
+by-stamped P None x g = x
+by-stamped P (Some t) x g = g t
 
 pub or-false-left : (a b : Bool) → (a || b) ≡ false → a ≡ false
 or-false-left true b e = e
@@ -101,7 +99,7 @@ pub or-moved : (s a g : Bool) → ((s || a) || g) ≡ (a || (s || g))
 or-moved true a g = sym (or-true a)
 or-moved false a g = refl
 
-pub none≢some : {A : Type 0} {a : A} → ◌≡◌ {A = Option A} none (some a) → ⊥
+pub none≢some : {A : Type 0} {a : A} → ◌≡◌ {A = Option A} None (Some a) → ⊥
 none≢some e = let z : ◌≡◌ {A = ℕ} 0 1 = cc in omega arith
 
 -- the converses: a fact makes its test true or false

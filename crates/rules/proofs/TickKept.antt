@@ -1,4 +1,5 @@
 -- The tick keeps the invariant.
+use Rattle.std.specs.Prelude.{Option, None}
 use mathlib.Core.Path.{◌≡◌, refl, sym, ap, subst}
 use mathlib.Core.List.{List, [], ◌++◌, map}
 use mathlib.Core.Bool.{Bool, true, false, not, ◌&&◌}
@@ -8,7 +9,6 @@ use lib.Dec.{leb, ltb, eqb}
 use lib.ListN.{length, get_or, length-map, get_or-map}
 use Rattle.rules.specs.declared.Expired.{Expired}
 use Rattle.rules.specs.declared.Item.{Item}
-use Rattle.rules.specs.declared.Stamp.{Stamp}
 use Rattle.rules.specs.Lists.{is_some, nil}
 use Rattle.rules.specs.Quantities.{Key, age, align_timeout}
 use Rattle.rules.specs.Log.{clear, end, keys, old}
@@ -24,7 +24,6 @@ use Rattle.rules.proofs.Invariant.{ConnOk, Good, GoodM, GoodW, LineOk, Suffix, c
 use Rattle.rules.proofs.Moves.{enter-good}
 use Rattle.rules.proofs.Sweep.{end_of, here, line_ok, sweep-good, take_over-good, try_line_up-good}
 use Rattle.rules.proofs.CallsKept.{Fine, begin-good, none-held}
-use Rattle.rules.specs.declared.Stamp.TheVariants as Stamp
 
 module _ (s : ℕ) (B : List (ℕ × Key)) (E : ℕ → ℕ) where
   abbrev FineTurn : (ℕ → List Key) → Turn → Type 0
@@ -44,7 +43,7 @@ module _ (s : ℕ) (B : List (ℕ × Key)) (E : ℕ → ℕ) where
   cleared_w T w g = subst (λ n. Good s (B ++ books w.out) T (now_entered w.entered E) (w.market.log.base + n) [] w.market.lines)
       (length-map w.market.log.entries (λ e. e.0)) (clear-good g)
 
-  rebuild-fine : (T : ℕ → List Key) (i : ℕ) (is : List Item) (at : Stamp) (since now : ℕ) (w : Work) → (conn_at i w.market).line ≡ Pending is at since → GoodW s B T E w
+  rebuild-fine : (T : ℕ → List Key) (i : ℕ) (is : List Item) (at : Option ℕ) (since now : ℕ) (w : Work) → (conn_at i w.market).line ≡ Pending is at since → GoodW s B T E w
       → FineTurn T (rebuild_from i is now w)
   unfolding rebuild_from
   rebuild-fine T i is at since now w e g =
@@ -70,16 +69,16 @@ module _ (s : ℕ) (B : List (ℕ × Key)) (E : ℕ → ℕ) where
       un x (InLine n a b) h = none-held (T x.conn)
       un x Failed h = tt
 
-  waiting-fine : (T : ℕ → List Key) (i : ℕ) (is : List Item) (since now : ℕ) (w : Work) → (conn_at i w.market).line ≡ Waiting is since → GoodW s B T E w → FineTurn T (time_out i is Stamp.Never since now w)
+  waiting-fine : (T : ℕ → List Key) (i : ℕ) (is : List Item) (since now : ℕ) (w : Work) → (conn_at i w.market).line ≡ Waiting is since → GoodW s B T E w → FineTurn T (time_out i is None since now w)
   unfolding time_out
   waiting-fine T i is since now w e g = by_cond (FineTurn T) (leb align_timeout (age now since)) (λ q. fails-fine T i w (Waiting is since) e refl g) (λ q. g)
 
-  pending-fine : (T : ℕ → List Key) (i : ℕ) (is : List Item) (at : Stamp) (since now : ℕ) (w : Work) → (conn_at i w.market).line ≡ Pending is at since → GoodW s B T E w → FineTurn T (time_out i is at since now w)
+  pending-fine : (T : ℕ → List Key) (i : ℕ) (is : List Item) (at : Option ℕ) (since now : ℕ) (w : Work) → (conn_at i w.market).line ≡ Pending is at since → GoodW s B T E w → FineTurn T (time_out i is at since now w)
   unfolding time_out
   pending-fine T i is at since now w e g = by_cond (FineTurn T) (leb align_timeout (age now since))
       (λ q. by-stamped (FineTurn T) at (fails-fine T i w (Pending is at since) e refl g) (λ t. rebuild-fine T i is at since now w e g)) (λ q. g)
 
-  quiet_line_up-fine : (T : ℕ → List Key) (i now : ℕ) (is : List Item) (at : Stamp) (since : ℕ) (w : Work) → (conn_at i w.market).line ≡ Pending is at since → GoodW s B T E w → GoodW s B T E (quiet_line_up i now is w)
+  quiet_line_up-fine : (T : ℕ → List Key) (i now : ℕ) (is : List Item) (at : Option ℕ) (since : ℕ) (w : Work) → (conn_at i w.market).line ≡ Pending is at since → GoodW s B T E w → GoodW s B T E (quiet_line_up i now is w)
   unfolding quiet_line_up
   quiet_line_up-fine T i now is at since w e g = by_cond (GoodW s B T E) (nil (events is))
       (λ q. enter-good s B T E i (end w.market.log) (end w.market.log) false false w (here i w.market (Pending is at since) e refl)

@@ -1,8 +1,6 @@
 -- 01, Calls: all but the tick, with the refusals that go by the state. A call works on the i-th line, which is l.
-use Rattle.std.specs.Prelude.{List, [], ◌∷◌, ◌++◌, map, Bool, true, false, not, ◌&&◌, ◌||◌, cond, ℕ, zero, suc, ◌+◌, ◌-◌, leb, ltb, eqb, length, get_or}
-use Rattle.std.proofs.Math.Option.{Option, none, some}
+use Rattle.std.specs.Prelude.{Option, None, Some, List, [], ◌∷◌, ◌++◌, map, Bool, true, false, not, ◌&&◌, ◌||◌, cond, ℕ, zero, suc, ◌+◌, ◌-◌, leb, ltb, eqb, length, get_or}
 use Rattle.rules.specs.declared.Limits.{Limits}
-use Rattle.rules.specs.declared.Stamp.TheVariants as Stamp
 use Rattle.rules.specs.declared.Item.TheVariants as Item
 use Rattle.rules.specs.declared.Expired.{Expired}
 use Rattle.rules.specs.Lists.{keep, any, nil, maybe}
@@ -73,7 +71,7 @@ snapshot i t msg now m (Waiting is since) =
     (refuse (full_numbers m) 9
     (cond (someone m.lines)
     (cond (any (snapshot_of 0) is' && any (snapshot_of 1) is')
-    (released held now (try_line_up false i now (begin (set_line i (Pending is' (Stamp.At now) now) m))))
+    (released held now (try_line_up false i now (begin (set_line i (Pending is' (Some now) now) m))))
     (just held (set_line i (Waiting is' since) m)))
     (did apply [] (take_over i is' now (begin m))))))
 snapshot i t msg now m (Pending is at since) = just ignored m
@@ -142,22 +140,22 @@ print c k msg now m =
 -- ---- Promote
 -- a line's claim: Pending with a snapshot (1, snapshot time); Waiting holding a snapshot (0, since)
 abbrev pub claim : Line → Option (ℕ × ℕ)
-claim (Waiting is since) = cond (any is_snapshot is) (some (0, since)) none
-claim (Pending is at since) = stamped none (λ t. some (1, t)) at
-claim (InLine n a b) = none
-claim Failed = none
+claim (Waiting is since) = cond (any is_snapshot is) (Some (0, since)) None
+claim (Pending is at since) = stamped None (λ t. Some (1, t)) at
+claim (InLine n a b) = None
+claim Failed = None
 
 abbrev pub below : ℕ × ℕ → ℕ × ℕ → Bool
 below x y = ltb x.0 y.0 || eqb x.0 y.0 && ltb x.1 y.1
 
 -- the better of the i-th line's claim and the best of those behind it: ties to the lowest connection
 abbrev pub better : ℕ → Option (ℕ × ℕ) → Option (ℕ × (ℕ × ℕ)) → Option (ℕ × (ℕ × ℕ))
-better i none o = o
-better i (some x) none = some (i, x)
-better i (some x) (some y) = cond (below x y.1) (some y) (some (i, x))
+better i None o = o
+better i (Some x) None = Some (i, x)
+better i (Some x) (Some y) = cond (below x y.1) (Some y) (Some (i, x))
 
 unfoldable pub source : ℕ → List Connection → Option (ℕ × (ℕ × ℕ))
-source i [] = none
+source i [] = None
 source i (s ∷ ss) = better i (claim s.line) (source (suc i) ss)
 
 unfoldable pub promote : ℕ → Market → Outcome
@@ -176,9 +174,9 @@ drop_conn c now m =
 
 -- ---- Reset: every line but Failed becomes Pending, no items, no snapshot, since now
 abbrev pub pending_anew : ℕ → Line → Line
-pending_anew now (Waiting is since) = Pending [] Stamp.Never now
-pending_anew now (Pending is at since) = Pending [] Stamp.Never now
-pending_anew now (InLine n a b) = Pending [] Stamp.Never now
+pending_anew now (Waiting is since) = Pending [] None now
+pending_anew now (Pending is at since) = Pending [] None now
+pending_anew now (InLine n a b) = Pending [] None now
 pending_anew now Failed = Failed
 
 abbrev pub each_line : (Line → Line) → Market → Market

@@ -1,9 +1,7 @@
 -- docs/DIFFERENCES.md, comments that say something else than the code: what its call lists show, as one claim over one table.
 -- Letters p to u are the keys (1, 1) to (6, 6); take n xs is a list up to its n-th call.
-use Rattle.std.specs.Prelude.{◌≡◌, List, [], ◌∷◌, ◌++◌, true, false, ℕ, take}
-use Rattle.rules.specs.declared.Stamp.TheVariants as Stamp
+use Rattle.std.specs.Prelude.{None, Some, ◌≡◌, List, [], ◌∷◌, ◌++◌, true, false, ℕ, take}
 use Rattle.rules.specs.declared.Item.{Item}
-use Rattle.rules.specs.declared.Item.TheVariants as Item
 use Rattle.rules.specs.declared.Expired.TheVariants as Expired
 use Rattle.rules.specs.Lists.{Each}
 use Rattle.rules.specs.Quantities.{key}
@@ -114,10 +112,10 @@ differences =
     -- how the lists begin: 1 in line, token 1 due or not; 2 pending; 2 in line by a quiet tick; 2 pending without a snapshot time
     leaves (starts 1) 1 (InLine 0 false true)
     ∷ leaves (joins 1 0) 1 (InLine 0 false false)
-    ∷ leaves (starts 1 ++ joins 2 0) 2 (Pending (both []) (Stamp.At 0) 0)
-    ∷ leaves (joins 1 0 ++ joins 2 0) 2 (Pending (both []) (Stamp.At 0) 0)
+    ∷ leaves (starts 1 ++ joins 2 0) 2 (Pending (both []) (Some 0) 0)
+    ∷ leaves (joins 1 0 ++ joins 2 0) 2 (Pending (both []) (Some 0) 0)
     ∷ leaves two 2 (InLine 0 false false)
-    ∷ leaves (resets 2) 2 (Pending [] Stamp.Never 0)
+    ∷ leaves (resets 2) 2 (Pending [] None 0)
     -- Counts and subscription
     ∷ says (take 2 resubscribed) (answer held [] [])
     ∷ says (take 4 resubscribed) (answer apply (put_snap 1 ∷ []) [])
@@ -132,7 +130,7 @@ differences =
     ∷ says late_copies (answer duplicate [] [])
     -- held_prints
     ∷ says (take 5 print_held) (answer held [] [])
-    ∷ leaves print_held 2 (Pending (both []) (Stamp.At 0) 0)
+    ∷ leaves print_held 2 (Pending (both []) (Some 0) 0)
     ∷ says (print_held ++ (tick_at 30001 (0 ∷ 1 ∷ []) ∷ [])) (answer done [] [])
     ∷ leaves (print_held ++ (tick_at 30001 (0 ∷ 1 ∷ []) ∷ [])) 2 (InLine 0 false false)
     -- First delivery
@@ -148,7 +146,7 @@ differences =
     ∷ says (starts 1 ++ (snap 1 0 0 ∷ [])) (answer ignored [] [])
     ∷ leaves (starts 1 ++ (snap 1 0 0 ∷ [])) 1 (InLine 0 false true)
     ∷ says (resets 1 ++ (snap 1 0 0 ∷ [])) (answer ignored [] [])
-    ∷ leaves (resets 1 ++ (snap 1 0 0 ∷ [])) 1 (Pending [] Stamp.Never 0)
+    ∷ leaves (resets 1 ++ (snap 1 0 0 ∷ [])) 1 (Pending [] None 0)
     -- Diverged
     ∷ says (take 8 disagreeing) (answer apply (put_event 1 0 1 ∷ []) [])
     ∷ says (take 9 disagreeing) (answer diverged [] [])
@@ -169,29 +167,29 @@ differences =
     ∷ says (take 9 two_fit) (answer held [] [])
     ∷ leaves two_fit 2 (InLine 1 false false)
     -- Quiet line-up
-    ∷ leaves (take 7 quiet_events) 2 (Pending (both []) (Stamp.At 500) 500)
+    ∷ leaves (take 7 quiet_events) 2 (Pending (both []) (Some 500) 500)
     ∷ says (take 8 quiet_events) (answer held [] [])
-    ∷ leaves (take 9 quiet_events) 2 (Pending (both (Item.Event (key 1 1) 1 ∷ [])) (Stamp.At 500) 500)
-    ∷ leaves (take 10 quiet_events) 2 (Pending (both (Item.Event (key 1 1) 1 ∷ [])) (Stamp.At 500) 500)
+    ∷ leaves (take 9 quiet_events) 2 (Pending (both (Item.Event (key 1 1) 1 ∷ [])) (Some 500) 500)
+    ∷ leaves (take 10 quiet_events) 2 (Pending (both (Item.Event (key 1 1) 1 ∷ [])) (Some 500) 500)
     ∷ says (take 11 quiet_events) (answer apply (put_print 1 2 1 ∷ []) [])
     ∷ leaves quiet_events 2 (InLine 1 false false)
-    ∷ leaves (take 7 quiet_empty) 2 (Pending (both []) (Stamp.At 500) 500)
-    ∷ leaves (take 8 quiet_empty) 2 (Pending (both []) (Stamp.At 500) 500)
+    ∷ leaves (take 7 quiet_empty) 2 (Pending (both []) (Some 500) 500)
+    ∷ leaves (take 8 quiet_empty) 2 (Pending (both []) (Some 500) 500)
     ∷ leaves quiet_empty 2 (InLine 0 false false)
     -- LOG_KEEP
     ∷ bases (take 4 clock_back) 0
     ∷ bases clock_back 1
     ∷ leaves clock_back 1 (InLine 3 false true)
     ∷ bases (take 6 behind_log) 1
-    ∷ leaves (take 9 behind_log) 2 (Pending (both []) (Stamp.At 10001) 10001)
+    ∷ leaves (take 9 behind_log) 2 (Pending (both []) (Some 10001) 10001)
     ∷ says (take 10 behind_log) (answer held [] [])
     ∷ says (take 11 behind_log) (answer held [] [])
     ∷ leaves behind_log 2 (InLine 2 false false)
     -- Expired::Aligned
     ∷ says (print_held ++ (tick_at 1000 (0 ∷ 1 ∷ []) ∷ [])) (answer done (put_print 2 1 1 ∷ []) (Expired.Aligned 2 1 ∷ []))
     ∷ says two (answer done [] [])
-    ∷ leaves (take 3 swept_in_tick) 2 (Pending [] Stamp.Never 0)
-    ∷ leaves (take 3 swept_in_tick) 3 (Pending [] Stamp.Never 0)
+    ∷ leaves (take 3 swept_in_tick) 2 (Pending [] None 0)
+    ∷ leaves (take 3 swept_in_tick) 3 (Pending [] None 0)
     ∷ says (take 11 swept_in_tick) (answer apply (put_event 1 4 1 ∷ []) [])
     ∷ says (take 15 swept_in_tick) (answer held [] [])
     ∷ says (take 19 swept_in_tick) (answer held [] [])
@@ -204,20 +202,20 @@ differences =
     ∷ says part_of_snapshot (answer done [] (Expired.Failed 2 ∷ []))
     ∷ leaves part_of_snapshot 1 (InLine 0 false true)
     ∷ says (take 5 late_snapshot) (answer held [] [])
-    ∷ leaves (take 6 late_snapshot) 2 (Pending (both []) (Stamp.At 5000) 5000)
+    ∷ leaves (take 6 late_snapshot) 2 (Pending (both []) (Some 5000) 5000)
     ∷ says late_snapshot (answer done (put_snap 2 ∷ put_snap 2 ∷ []) (Expired.Rebuild 2 2 ∷ []))
     -- snapshot: None
     ∷ says rebuilt (answer done (put_snap 2 ∷ put_snap 2 ∷ []) (Expired.Rebuild 2 2 ∷ []))
-    ∷ leaves rebuilt 1 (Pending [] Stamp.Never 10000)
+    ∷ leaves rebuilt 1 (Pending [] None 10000)
     -- promote
     ∷ says (take 8 last_fails) (answer apply (put_event 2 0 1 ∷ []) [])
     ∷ leaves (take 8 last_fails) 1 (InLine 0 false false)
-    ∷ leaves (take 11 last_fails) 2 (Pending (both []) (Stamp.At 2000) 2000)
+    ∷ leaves (take 11 last_fails) 2 (Pending (both []) (Some 2000) 2000)
     ∷ says (take 12 last_fails) (answer done [] (Expired.Failed 1 ∷ []))
     ∷ bases (take 12 last_fails) 1
-    ∷ leaves (take 12 last_fails) 2 (Pending (both []) (Stamp.At 2000) 2000)
+    ∷ leaves (take 12 last_fails) 2 (Pending (both []) (Some 2000) 2000)
     ∷ says last_fails (answer rebuild (put_snap 2 ∷ put_snap 2 ∷ []) [])
-    ∷ leaves (take 6 last_resubscribes) 2 (Pending (both []) (Stamp.At 0) 0)
+    ∷ leaves (take 6 last_resubscribes) 2 (Pending (both []) (Some 0) 0)
     ∷ says last_resubscribes (answer rebuild (put_snap 2 ∷ put_snap 2 ∷ []) [])
     -- servable
     ∷ says (take 8 old_log) (answer apply (put_event 1 3 4 ∷ []) [])

@@ -1,9 +1,7 @@
 -- 01, Lines: what puts records out on the way into line: take-over, release, line-up, sweep.
-use Rattle.std.specs.Prelude.{List, [], ◌∷◌, ◌++◌, Bool, false, not, cond, ℕ, zero, suc, ◌+◌, ◌-◌, ltb, eqb, length, drop}
-use Rattle.std.proofs.Math.Option.{Option, none}
+use Rattle.std.specs.Prelude.{Option, None, List, [], ◌∷◌, ◌++◌, Bool, false, not, cond, ℕ, zero, suc, ◌+◌, ◌-◌, ltb, eqb, length, drop}
 use Rattle.rules.specs.declared.Applied.{Applied}
 use Rattle.rules.specs.declared.Item.{Item}
-use Rattle.rules.specs.declared.Item.TheVariants as Item
 use Rattle.rules.specs.Lists.{keep, any, maybe}
 use Rattle.rules.specs.Quantities.{Key, snapshot_out, book_out, print_out}
 use Rattle.rules.specs.Log.{keys, end, push, stamp}
@@ -67,10 +65,10 @@ take_over i is now w =
 
 -- alignment of a pending line, only while no line in line is due anything
 abbrev pub aligns : Bool → Line → Market → Option Place
-aligns quiet (Waiting is since) m = none
-aligns quiet (Pending is at since) m = cond (some_due m.lines) none (alignment quiet (event_keys is) (keys m.log))
-aligns quiet (InLine n a b) m = none
-aligns quiet Failed m = none
+aligns quiet (Waiting is since) m = None
+aligns quiet (Pending is at since) m = cond (some_due m.lines) None (alignment quiet (event_keys is) (keys m.log))
+aligns quiet (InLine n a b) m = None
+aligns quiet Failed m = None
 
 -- Line-up at (j, p): held events past the end are pushed and put out; next = p + (held - j); due nothing
 unfoldable pub line_up : ℕ → ℕ → Place → Work → Work

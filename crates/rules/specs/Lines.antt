@@ -1,9 +1,7 @@
 -- 01, Lines: the kinds of a line, what a connection holds, and the market that a store means.
-use Rattle.std.specs.Prelude.{List, [], ◌∷◌, map, Bool, true, false, ◌||◌, cond, ℕ, ltb, eqb, length, get_or, set}
-use Rattle.rules.specs.declared.Stamp.{Stamp}
+use Rattle.std.specs.Prelude.{Option, List, [], ◌∷◌, map, Bool, true, false, ◌||◌, cond, ℕ, ltb, eqb, length, get_or, set}
 use Rattle.rules.specs.declared.Limits.{Limits}
 use Rattle.rules.specs.declared.Item.{Item}
-use Rattle.rules.specs.declared.Item.TheVariants as Item
 use Rattle.rules.specs.Lists.{any, index, sum}
 use Rattle.rules.specs.Quantities.{Key}
 use Rattle.rules.specs.Log.{Log, empty_log}
@@ -12,7 +10,7 @@ use Rattle.rules.specs.Prints.{Prints, no_prints}
 -- Waiting: items, since. Pending: items, snapshot time or none, since. In line: next, due for tokens 0 and 1
 pub data Line : Type 0 where
   Waiting : List Item → ℕ → Line
-  Pending : List Item → Stamp → ℕ → Line
+  Pending : List Item → Option ℕ → ℕ → Line
   InLine : ℕ → Bool → Bool → Line
   Failed : Line
 

@@ -1,6 +1,5 @@
 -- Lists with tests. Nothing here is about markets.
-use Rattle.std.specs.Prelude.{◌≡◌, ◌⊎◌, List, [], ◌∷◌, Bool, true, false, ◌||◌, cond, ℕ, zero, suc, ◌+◌, max}
-use Rattle.std.proofs.Math.Option.{Option, none, some}
+use Rattle.std.specs.Prelude.{Option, None, Some, ◌≡◌, ◌⊎◌, List, [], ◌∷◌, Bool, true, false, ◌||◌, cond, ℕ, zero, suc, ◌+◌, max}
 
 module _ {A : Type 0} where
   -- those that pass the test
@@ -14,8 +13,8 @@ module _ {A : Type 0} where
 
   -- the first that passes
   abbrev pub first : (A → Bool) → List A → Option A
-  first t [] = none
-  first t (x ∷ xs) = cond (t x) (some x) (first t xs)
+  first t [] = None
+  first t (x ∷ xs) = cond (t x) (Some x) (first t xs)
 
   -- the first that passes, changed
   abbrev pub amend : (A → Bool) → (A → A) → List A → List A
@@ -38,21 +37,21 @@ module _ {A : Type 0} where
 
   -- the one element of a list of one
   abbrev pub only : List A → Option A
-  only [] = none
-  only (x ∷ []) = some x
-  only (x ∷ y ∷ zs) = none
+  only [] = None
+  only (x ∷ []) = Some x
+  only (x ∷ y ∷ zs) = None
 
   abbrev pub sum : (A → ℕ) → List A → ℕ
   sum f [] = 0
   sum f (x ∷ xs) = f x + sum f xs
 
   abbrev pub maybe : {B : Type 0} → B → (A → B) → Option A → B
-  maybe b f none = b
-  maybe b f (some a) = f a
+  maybe b f None = b
+  maybe b f (Some a) = f a
 
   abbrev pub is_some : Option A → Bool
-  is_some none = false
-  is_some (some a) = true
+  is_some None = false
+  is_some (Some a) = true
 
   -- P holds of each
   abbrev pub Each : (A → Type 0) → List A → Type 0

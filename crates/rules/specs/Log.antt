@@ -1,19 +1,16 @@
 -- 01, Log: entries (key, time) numbered from base.
-use Rattle.std.specs.Prelude.{List, [], ◌∷◌, ◌++◌, map, cond, ◌&&◌, ℕ, suc, ◌+◌, ◌-◌, leb, ltb, length, get_or, drop}
-use Rattle.std.proofs.Math.Option.{Option, none, some}
-use Rattle.rules.specs.declared.Stamp.{Stamp}
-use Rattle.rules.specs.declared.Stamp.TheVariants as Stamp
+use Rattle.std.specs.Prelude.{Option, None, Some, List, [], ◌∷◌, ◌++◌, map, cond, ◌&&◌, ℕ, suc, ◌+◌, ◌-◌, leb, ltb, length, get_or, drop}
 use Rattle.rules.specs.Quantities.{Key, no_key, age, log_keep}
 
 -- `last` is last-applied
 pub record Log : Type 0 where
   pub base : ℕ
   pub entries : List (Key × ℕ)
-  pub last : Stamp
+  pub last : Option ℕ
 
 -- the log that setup makes
 abbrev pub empty_log : ℕ → Log
-empty_log start = record { base = start; entries = []; last = Stamp.Never }
+empty_log start = record { base = start; entries = []; last = None }
 
 abbrev pub keys : Log → List Key
 keys l = map (λ e. e.0) l.entries
@@ -23,15 +20,15 @@ end l = l.base + length l.entries
 
 -- the key of event n, where the log has it
 unfoldable pub key_at : ℕ → Log → Option Key
-key_at n l = cond (leb l.base n && ltb n (end l)) (some (get_or (keys l) (n - l.base) no_key)) none
+key_at n l = cond (leb l.base n && ltb n (end l)) (Some (get_or (keys l) (n - l.base) no_key)) None
 
 -- adds at the end and sets last-applied to now
 abbrev pub push : Key → ℕ → Log → Log
-push k now l = record { base = l.base; entries = l.entries ++ ((k, now) ∷ []); last = Stamp.At now }
+push k now l = record { base = l.base; entries = l.entries ++ ((k, now) ∷ []); last = Some now }
 
 -- last-applied = now
 abbrev pub stamp : ℕ → Log → Log
-stamp now l = record { base = l.base; entries = l.entries; last = Stamp.At now }
+stamp now l = record { base = l.base; entries = l.entries; last = Some now }
 
 -- sets base to end and empties the log
 abbrev pub clear : Log → Log

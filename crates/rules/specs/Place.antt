@@ -1,14 +1,13 @@
 -- 01, Lines: the place of a pending line's held events in the log.
-use Rattle.std.specs.Prelude.{List, [], ◌∷◌, ◌++◌, map, Bool, false, ◌&&◌, ◌||◌, cond, ℕ, suc, ◌+◌, ◌-◌, leb, eqb, length, drop}
-use Rattle.std.proofs.Math.Option.{Option, none, some}
+use Rattle.std.specs.Prelude.{Option, None, Some, List, [], ◌∷◌, ◌++◌, map, Bool, false, ◌&&◌, ◌||◌, cond, ℕ, suc, ◌+◌, ◌-◌, leb, eqb, length, drop}
 use Rattle.rules.specs.Lists.{keep, nil, only, maybe, count}
 use Rattle.rules.specs.Quantities.{Key, same, align_run}
 
 -- how many keys match, compared until either list ends; none where two differ
 unfoldable pub fits : List Key → List Key → Option ℕ
-fits [] ys = some 0
-fits (x ∷ xs) [] = some 0
-fits (x ∷ xs) (y ∷ ys) = cond (same x y) (maybe none (λ n. some (suc n)) (fits xs ys)) none
+fits [] ys = Some 0
+fits (x ∷ xs) [] = Some 0
+fits (x ∷ xs) (y ∷ ys) = cond (same x y) (maybe None (λ n. Some (suc n)) (fits xs ys)) None
 
 -- (j, i): held events from the j-th against the log from number p = base + i
 abbrev pub Place : Type 0
@@ -26,4 +25,4 @@ counts quiet hs ks p =
 
 -- exactly one place counts, and neither log nor held events are empty
 unfoldable pub alignment : Bool → List Key → List Key → Option Place
-alignment quiet hs ks = cond (nil hs || nil ks) none (only (keep (counts quiet hs ks) (places hs ks)))
+alignment quiet hs ks = cond (nil hs || nil ks) None (only (keep (counts quiet hs ks) (places hs ks)))

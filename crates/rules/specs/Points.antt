@@ -1,12 +1,10 @@
 -- 01, Worked points: the starred ones, what the named misreadings get wrong, and the listing, as one claim over one table.
 -- Letters p, q, r, s, t are the keys (1, 1) to (5, 5); start is 0.
-use Rattle.std.specs.Prelude.{◌≡◌, List, [], ◌∷◌, ◌++◌, Bool, false, ℕ, take}
-use Rattle.rules.specs.declared.Stamp.TheVariants as Stamp
+use Rattle.std.specs.Prelude.{Some, ◌≡◌, List, [], ◌∷◌, ◌++◌, Bool, false, ℕ, take}
 use Rattle.rules.specs.declared.Limits.{Limits}
 use Rattle.rules.specs.declared.Applied.{Applied}
 use Rattle.rules.specs.declared.Item.TheVariants as Item
 use Rattle.rules.specs.declared.Expired.{Expired}
-use Rattle.rules.specs.declared.Expired.TheVariants as Expired
 use Rattle.rules.specs.Lists.{Each}
 use Rattle.rules.specs.Quantities.{key, snapshot_out, book_out, print_out}
 use Rattle.rules.specs.Prints.{CountRow}
@@ -174,7 +172,7 @@ points =
     ∷ says (subscribes 1 ∷ tick_at 9999 (0 ∷ []) ∷ []) (answer done [] [])
     ∷ says (subscribes 1 ∷ tick_at 10000 (0 ∷ []) ∷ []) (answer done [] (Expired.Failed 1 ∷ []))
     -- quiet 999 no, 1,000 yes
-    ∷ leaves (joins 1 0 ++ joins 2 0 ++ (tick_at 999 (0 ∷ 1 ∷ []) ∷ [])) 2 (Pending (Item.Snapshot 0 0 ∷ Item.Snapshot 1 0 ∷ []) (Stamp.At 0) 0)
+    ∷ leaves (joins 1 0 ++ joins 2 0 ++ (tick_at 999 (0 ∷ 1 ∷ []) ∷ [])) 2 (Pending (Item.Snapshot 0 0 ∷ Item.Snapshot 1 0 ∷ []) (Some 0) 0)
     ∷ leaves two 2 (InLine 0 false false)
     -- in line, two and three copies of a print: three put out
     ∷ says (two ++ (print_of 1 9 ∷ [])) (answer apply (put_print 1 9 1 ∷ []) [])
@@ -237,7 +235,7 @@ points =
     ∷ says (deserted ++ (snap 1 1 0 ∷ [])) (answer apply (put_snap 1 ∷ put_event 1 0 1 ∷ put_event 1 1 2 ∷ put_event 1 2 3 ∷ put_event 1 3 4 ∷ put_snap 1 ∷ []) [])
     ∷ leaves (deserted ++ (snap 1 1 0 ∷ [])) 2
     (Pending (Item.Snapshot 0 0 ∷ Item.Snapshot 1 0 ∷ Item.Event (key 1 1) 1 ∷ Item.Event (key 2 2) 2
-    ∷ Item.Event (key 3 3) 3 ∷ Item.Event (key 4 4) 4 ∷ []) (Stamp.At 0) 0)
+    ∷ Item.Event (key 3 3) 3 ∷ Item.Event (key 4 4) 4 ∷ []) (Some 0) 0)
     -- and a sweep after the next event: 2 lines up
     ∷ leaves (deserted ++ (snap 1 1 0 ∷ event 1 5 ∷ [])) 2 (InLine 4 false false)
     -- counts outlive a drop

@@ -1,8 +1,6 @@
 -- 01, Quantities. A number, a time and a key's word are plain numbers here: the words of a store are what bounds them.
-use Rattle.std.specs.Prelude.{Bool, ◌&&◌, ℕ, ◌+◌, ◌-◌, ◌*◌, ◌^◌, leb, eqb}
+use Rattle.std.specs.Prelude.{Option, None, Some, Bool, ◌&&◌, ℕ, ◌+◌, ◌-◌, ◌*◌, ◌^◌, leb, eqb}
 use Rattle.rules.specs.declared.EventKey.{EventKey}
-use Rattle.rules.specs.declared.Stamp.{Stamp}
-use Rattle.rules.specs.declared.Stamp.TheVariants as Stamp
 use Rattle.rules.specs.declared.Limits.{Limits}
 use Rattle.rules.specs.declared.Kind.TheVariants as Kind
 use Rattle.rules.specs.declared.Applied.{Applied}
@@ -25,9 +23,9 @@ abbrev pub age : ℕ → ℕ → ℕ
 age now stamp = now - stamp
 
 -- of a stamp's time, or n where there is none
-abbrev pub stamped : {A : Type 0} → A → (ℕ → A) → Stamp → A
-stamped n f Stamp.Never = n
-stamped n f (Stamp.At t) = f t
+abbrev pub stamped : {A : Type 0} → A → (ℕ → A) → Option ℕ → A
+stamped n f None = n
+stamped n f (Some t) = f t
 
 -- a log entry stays until it is older than this
 abbrev pub log_keep : ℕ

@@ -1,6 +1,5 @@
 -- 01, Numbered refusals: each call, its refusals in order, then what it does. Number 1, a store that is not sound, is told by the words.
-use Rattle.std.specs.Prelude.{List, [], map, Bool, true, false, not, ◌||◌, cond, ℕ, ◌+◌, ◌*◌, ltb, eqb, length}
-use Rattle.std.proofs.Math.Option.{Option, none, some}
+use Rattle.std.specs.Prelude.{Option, None, Some, List, [], map, Bool, true, false, not, ◌||◌, cond, ℕ, ◌+◌, ◌*◌, ltb, eqb, length}
 use Rattle.rules.specs.declared.Limits.{Limits}
 use Rattle.rules.specs.Lists.{any}
 use Rattle.rules.specs.Quantities.{Key, stamped, area_items, words_needed, in_range}
@@ -70,4 +69,4 @@ messages c m = let s = conn_at (line_of c m) m in cond (is_pending s.line) (map 
 
 -- 3: list under H + 8
 unfoldable pub view : ℕ → ℕ → Market → Option (List ℕ)
-view c room m = cond (ltb room (area_items m.limits)) none (some (messages c m))
+view c room m = cond (ltb room (area_items m.limits)) None (Some (messages c m))

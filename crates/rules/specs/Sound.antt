@@ -2,7 +2,6 @@
 use Rattle.std.specs.Prelude.{◌≡◌, List, true, ℕ, ◌+◌, ◌≤◌, ◌<◌, length}
 use Rattle.rules.specs.declared.Limits.{Limits}
 use Rattle.rules.specs.declared.Item.{Item}
-use Rattle.rules.specs.declared.Item.TheVariants as Item
 use Rattle.rules.specs.Lists.{any, sum, Each, Rising}
 use Rattle.rules.specs.Quantities.{area_items, in_range, max_count, max_number}
 use Rattle.rules.specs.Prints.{KeyRow, CountRow, Prints, key_before, count_before, of_key}

@@ -1,10 +1,7 @@
 -- 01, Calls: the tick.
-use Rattle.std.specs.Prelude.{List, [], ◌∷◌, ◌++◌, Bool, true, false, not, ◌&&◌, ◌||◌, cond, ℕ, zero, suc, ◌-◌, leb, ltb, eqb, length, get_or}
-use Rattle.rules.specs.declared.Stamp.{Stamp}
-use Rattle.rules.specs.declared.Stamp.TheVariants as Stamp
+use Rattle.std.specs.Prelude.{Option, None, List, [], ◌∷◌, ◌++◌, Bool, true, false, not, ◌&&◌, ◌||◌, cond, ℕ, zero, suc, ◌-◌, leb, ltb, eqb, length, get_or}
 use Rattle.rules.specs.declared.Item.{Item}
 use Rattle.rules.specs.declared.Expired.{Expired}
-use Rattle.rules.specs.declared.Expired.TheVariants as Expired
 use Rattle.rules.specs.Lists.{nil, is_some}
 use Rattle.rules.specs.Quantities.{age, stamped, align_timeout, quiet_after}
 use Rattle.rules.specs.Log.{Log, end, clear, prune}
@@ -43,7 +40,7 @@ fails i w = on (Expired.Failed (conn_at i w.market).conn ∷ []) (on_market (set
 abbrev pub out_of_line : ℕ → Line → Line
 out_of_line now (Waiting is since) = Waiting is since
 out_of_line now (Pending is at since) = Pending is at since
-out_of_line now (InLine n a b) = Pending [] Stamp.Never now
+out_of_line now (InLine n a b) = Pending [] None now
 out_of_line now Failed = Failed
 
 abbrev pub all_out : ℕ → Market → Market
@@ -55,7 +52,7 @@ rebuild_from i is now w =
     stop (Expired.Rebuild (conn_at i w.market).conn (records_since w w') ∷ []) w'
 
 -- since-age ≥ 10,000: a rebuild if Pending with a snapshot time, else Failed. A Waiting line has no snapshot time
-unfoldable pub time_out : ℕ → List Item → Stamp → ℕ → ℕ → Work → Turn
+unfoldable pub time_out : ℕ → List Item → Option ℕ → ℕ → ℕ → Work → Turn
 time_out i is at since now w =
     cond (leb align_timeout (age now since)) (stamped (fails i w) (λ t. rebuild_from i is now w) at) (on [] w)
 
@@ -65,7 +62,7 @@ quiet_line_up i now is w =
     cond (nil (events is)) (enter i (end w.market.log) (end w.market.log) false false w) (try_line_up true i now w)
 
 -- quiet, its snapshot age ≥ 1,000, it holds no event or aligns quietly, and its view answer is yes
-abbrev pub quietly : List Item → Stamp → ℕ → Bool → ℕ → Market → Bool
+abbrev pub quietly : List Item → Option ℕ → ℕ → Bool → ℕ → Market → Bool
 quietly is at since same_view now m =
     quiet_log now m.log && stamped false (λ t. leb quiet_after (age now t)) at && (nil (events is) || is_some (aligns true (Pending is at since) m)) && same_view
 
@@ -81,7 +78,7 @@ turn i due same_view now w (Pending is at since) =
     (let w' = quiet_line_up i now is w in on (report_aligned i w w') w')
     (time_out i is at since now w)))
     (time_out i is at since now w)
-turn i due same_view now w (Waiting is since) = time_out i is Stamp.Never since now w
+turn i due same_view now w (Waiting is since) = time_out i is None since now w
 turn i due same_view now w Failed = on [] w
 
 -- the turns of n lines from the i-th on

@@ -1,19 +1,16 @@
 // The plain types that the rules and the code share. A type named in the Rust keeps its name there.
 #![tactic(auto)]
 
+pub mod refusal;
+
+pub use refusal::Refusal;
+
 // A message's identity: two hashes of its content.
-#[derive(Clone, Copy)]
+#[derive(Clone, Copy, Debug, PartialEq, Eq)]
 pub struct EventKey(pub u64, pub u64);
 
-// A time that may not have come yet.
-#[derive(Clone, Copy)]
-pub enum Stamp {
-    Never,
-    At(u64),
-}
-
 // What setup fixes: lines L, held limit H, event limit G, print keys C, count pairs D.
-#[derive(Clone, Copy)]
+#[derive(Clone, Copy, Debug, PartialEq, Eq)]
 pub struct Limits {
     pub L: u64,
     pub H: u64,
@@ -22,7 +19,7 @@ pub struct Limits {
     pub D: u64,
 }
 
-#[derive(Clone, Copy)]
+#[derive(Clone, Copy, Debug, PartialEq, Eq)]
 pub enum Kind {
     Snapshot,
     Book,
@@ -30,7 +27,7 @@ pub enum Kind {
 }
 
 // A put-out record.
-#[derive(Clone, Copy)]
+#[derive(Clone, Copy, Debug, PartialEq, Eq)]
 pub struct Applied {
     pub conn: u64,
     pub kind: Kind,
@@ -41,22 +38,22 @@ pub struct Applied {
 }
 
 // What a line that is not in line holds: a snapshot (token, message) or an event (key, message).
-#[derive(Clone, Copy)]
+#[derive(Clone, Copy, Debug, PartialEq, Eq)]
 pub enum Item {
     Snapshot(u64, u64),
     Event(EventKey, u64),
 }
 
 // A tick report: the connection, and the count of its records.
-#[derive(Clone, Copy)]
+#[derive(Clone, Copy, Debug, PartialEq, Eq)]
 pub enum Expired {
     Aligned(u64, usize),
     Rebuild(u64, usize),
     Failed(u64),
 }
 
-// What a snapshot, a book event or a print is answered; Apply counts its records.
-#[derive(Clone, Copy)]
+// What a snapshot, a book event or a print is answered, unless it is refused; Apply counts its records.
+#[derive(Clone, Copy, Debug, PartialEq, Eq)]
 pub enum Step {
     Apply(usize),
     Duplicate,
@@ -64,43 +61,19 @@ pub enum Step {
     Ignored,
     Diverged,
     Failed,
-    Refused(u64),
 }
 
-// What a drop or a promote is answered; Rebuild counts its records.
-#[derive(Clone, Copy)]
+// What a drop or a promote is answered, unless it is refused; Rebuild counts its records.
+#[derive(Clone, Copy, Debug, PartialEq, Eq)]
 pub enum Lost {
     Kept,
     Gone,
     Rebuild(usize),
-    Refused(u64),
 }
 
-// What a tick is answered: its reports, and all their records.
-#[derive(Clone, Copy)]
-pub enum Ticked {
-    Done { reports: usize, records: usize },
-    Refused(u64),
-}
-
-// What setup, a subscribe or a reset is answered.
-#[derive(Clone, Copy)]
-pub enum Changed {
-    Done,
-    Refused(u64),
-}
-
-// What a query is answered.
-#[derive(Clone, Copy)]
-pub enum Asked {
-    Yes,
-    No,
-    Refused(u64),
-}
-
-// What a view is answered: how many messages it wrote.
-#[derive(Clone, Copy)]
-pub enum Viewed {
-    Messages(usize),
-    Refused(u64),
+// What a tick is answered, unless it is refused: how many reports there are, and how many records they have.
+#[derive(Clone, Copy, Debug, PartialEq, Eq)]
+pub struct Ticked {
+    pub reports: usize,
+    pub records: usize,
 }

@@ -5,18 +5,18 @@ ghost use Rattle.rules.specs.Answers.{of_changed};
 ghost use Rattle.market.specs.Lent.{alone};
 ghost use Rattle.promise.specs.Meets.{Promise, of_setup, says};
 
-use rules::{Changed, Limits};
+use rules::{Limits, Refusal};
 
 // Makes an empty store of these limits, whatever the words were.
-pub fn setup(s: &mut [u64], l: Limits, start: u64) -> Changed
+pub fn setup(s: &mut [u64], l: Limits, start: u64) -> Result<(), Refusal>
     ensures { Promise (of_setup l start) (alone s.old) (says (of_changed result)) (alone s.new) }
 {
-    if sound::in_range(l) {
-        if (s.len() as u64) < sound::words_needed(l) {
-            return Changed::Refused(1);
-        }
-        store::put_header(s, l, start);
-        return Changed::Done;
+    if !sound::in_range(l) {
+        return Err(Refusal::Limits);
     }
-    Changed::Refused(2)
+    if (s.len() as u64) < sound::words_needed(l) {
+        return Err(Refusal::Unsound);
+    }
+    store::put_header(s, l, start);
+    Ok(())
 }

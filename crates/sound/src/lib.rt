@@ -1,7 +1,7 @@
 // Whether any words are a sound store.
 #![tactic(auto)]
 
-ghost use Rattle.std.specs.Prelude.{◌≡◌, true, ◌≤◌, length};
+ghost use Rattle.std.specs.Prelude.{◌≡◌, true, ◌≤◌, length, MatchResult};
 ghost use Rattle.rules.specs.Quantities.{in_range, words_needed};
 ghost use Rattle.rules.specs.Sound.{TablesSound};
 ghost use Rattle.words.specs.Words.{Says};
@@ -12,10 +12,10 @@ ghost use Rattle.store.specs.ConnMoves.{LineAt};
 ghost use Rattle.sound.specs.Parts.{FewNew, Ranged, Above, SoundAt, EachSound, ItemsFit};
 
 use rows::Runs;
-use rules::Limits;
+use rules::{Limits, Refusal};
 
 // The largest event number.
-const MAX_NUMBER: u64 = 18446744073709551615;
+const MAX_NUMBER: u64 = u64::MAX;
 
 // Whether limits are in range.
 pub fn in_range(l: Limits) -> bool
@@ -43,13 +43,7 @@ fn few_new(s: &[u64]) -> bool
     ensures { Says result (FewNew s.now) }
 {
     let used = store::tables::used(s);
-    if rows::MOST_NEW < used.keys.new {
-        return false;
-    }
-    if rows::MOST_NEW < used.counts.new {
-        return false;
-    }
-    true
+    used.keys.new <= rows::MOST_NEW && used.counts.new <= rows::MOST_NEW
 }
 
 // Whether the words are of this layout, with the front below G, with few new rows, and long enough for their limits, which are
@@ -80,14 +74,7 @@ fn sized(s: &[u64]) -> bool
 fn within(u: Runs, limit: u64) -> bool
     ensures { Says result (size u ≤ limit) }
 {
-    let old = u.old as u64;
-    if limit < old {
-        return false;
-    }
-    if limit - old < u.new as u64 {
-        return false;
-    }
-    true
+    u.old as u64 <= limit && u.new as u64 <= limit - u.old as u64
 }
 
 // Whether the header's counts are within the limits.
@@ -100,22 +87,11 @@ fn counted(s: &[u64]) -> bool
     let count = head.count as u64;
     let lines = store::conns::count(s) as u64;
     let used = store::tables::used(s);
-    if l.G < count {
-        return false;
-    }
-    if MAX_NUMBER - count < head.base {
-        return false;
-    }
-    if l.L < lines {
-        return false;
-    }
-    if !within(used.keys, l.C) {
-        return false;
-    }
-    if !within(used.counts, l.D) {
-        return false;
-    }
-    true
+    count <= l.G
+        && head.base <= MAX_NUMBER - count
+        && lines <= l.L
+        && within(used.keys, l.C)
+        && within(used.counts, l.D)
 }
 
 // Whether the print tables are sound.
@@ -132,14 +108,7 @@ fn above(s: &[u64], i: usize) -> bool
     requires { LineAt s.now i }
     ensures { Says result (Above s.now i) }
 {
-    if i == 0 {
-        return true;
-    }
-    let before = store::conns::conn_at(s, i - 1);
-    if store::conns::conn_at(s, i) <= before {
-        return false;
-    }
-    true
+    i == 0 || store::conns::conn_at(s, i - 1) < store::conns::conn_at(s, i)
 }
 
 // Whether the i-th line is sound over a log that ends at `end`, and above the one before it.
@@ -147,11 +116,8 @@ fn line_sound(s: &[u64], i: usize, end: u64) -> bool
     requires { LineAt s.now i }
     ensures { Says result (SoundAt s.now end i) }
 {
-    if above(s, i) {
-        let h = store::conns::held_limit(s);
-        return lines::area::sound(store::conns::line_words(s, i), h, end);
-    }
-    false
+    let h = store::conns::held_limit(s);
+    above(s, i) && lines::area::sound(store::conns::line_words(s, i), h, end)
 }
 
 // Whether each line is, over the log's end.
@@ -159,14 +125,11 @@ fn lines_sound(s: &[u64]) -> bool
     requires { (Sized s.now) × (Counts s.now) }
     ensures { Says result (EachSound s.now) }
 {
-    let n = store::conns::count(s);
     let end = store::entries::end(s);
-    let mut i = 0;
-    while i < n {
+    for i in 0..store::conns::count(s) {
         if !line_sound(s, i, end) {
             return false;
         }
-        i += 1;
     }
     true
 }
@@ -178,30 +141,25 @@ fn items_fit(s: &[u64]) -> bool
 {
     let l = store::entries::limits(s);
     let all = store::entries::count(s) as u64 + store::conns::held_items(s) as u64;
-    if l.G < all {
-        return false;
-    }
-    if MAX_NUMBER - store::entries::base(s) < all {
-        return false;
-    }
-    true
+    all <= l.G && all <= MAX_NUMBER - store::entries::base(s)
 }
 
 // Whether the words are a sound store.
 pub fn is_sound(s: &[u64]) -> bool
     ensures { Says result (Sound s.now) }
 {
-    if !sized(s) {
-        return false;
+    sized(s) && counted(s) && tables_sound(s) && lines_sound(s) && items_fit(s)
+}
+
+// Refuses words that are no sound store.
+pub fn check(s: &[u64]) -> Result<(), Refusal>
+    ensures { MatchResult result
+        (λ done. Sound s.now)
+        (λ e. (e ≡ Refusal.Unsound) × (Sound s.now → ⊥)) }
+{
+    if is_sound(s) {
+        Ok(())
+    } else {
+        Err(Refusal::Unsound)
     }
-    if !counted(s) {
-        return false;
-    }
-    if !tables_sound(s) {
-        return false;
-    }
-    if !lines_sound(s) {
-        return false;
-    }
-    items_fit(s)
 }

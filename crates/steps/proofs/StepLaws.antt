@@ -1,12 +1,12 @@
 -- A call's refusals on a sound store, and what the calls below ask for.
 use mathlib.Core.Path.{◌≡◌, refl, sym, ap, ◌∙◌}
-use mathlib.Core.List.{List}
+use Rattle.std.specs.List.{list_any}
+use mathlib.Core.List.{List, [], ◌∷◌}
 use mathlib.Core.Bool.{Bool, true, false, not, ◌||◌}
-use Prim.Native.Nat.{ℕ, suc, ◌+◌, ◌*◌, ◌/◌, ◌≤◌, ◌<◌}
+use Prim.Native.Nat.{ℕ, ◌*◌, ◌/◌, ◌≤◌, ◌<◌}
 use native.Mathlib.Omega.{arith}
 use lib.Dec.{ltb, eqb}
-use lib.ListN.{length, get_or, drop, drop_of_length-le}
-use lib.Seq.{drop-cons}
+use lib.ListN.{length}
 use borrow.Author.Tests.{ltb-false, lt-ltb, le-ltb, eqb-true, eq-eqb, ne_eqb}
 use Rattle.rules.specs.declared.Limits.{Limits}
 use Rattle.rules.specs.Lists.{any}
@@ -60,17 +60,10 @@ module _ (c token msg t : ℕ) (w v : List ℕ) where
 
 -- ---- view answers
 
-module _ (l : List ℕ) (i : ℕ) where
-  pub above-here : i < length l → 1 < get_or l i 0 → true ≡ any (λ a. ltb 1 a) (drop i l)
-  above-here h p = rw (drop-cons l i 0 h, lt-ltb 1 (get_or l i 0) p) refl
-
-  pub above-over : i < length l → get_or l i 0 ≤ 1 → any (λ a. ltb 1 a) (drop i l) ≡ any (λ a. ltb 1 a) (drop (i + 1) l)
-  above-over h p =
-      let q : suc i ≡ i + 1 = omega arith in
-      (rw (drop-cons l i 0 h, le-ltb 1 (get_or l i 0) p) refl) ∙ ap (λ (j : ℕ). any (λ a. ltb 1 a) (drop j l)) q
-
-  pub above-end : length l ≤ i → false ≡ any (λ a. ltb 1 a) (drop i l)
-  above-end h = rw (drop_of_length-le l {i = i} h) refl
+-- std's test of a list is the rules'
+pub any-is : (p : ℕ → Bool) (xs : List ℕ) → list_any p xs ≡ any p xs
+any-is p [] = refl
+any-is p (x ∷ xs) = ap (λ (b : Bool). p x || b) (any-is p xs)
 
 pub bad-by-one : (w answers : List ℕ) → length answers ≡ line_count w → (r : Bool) → r ≡ any (λ a. ltb 1 a) answers → r ≡ bad_answers answers (market_of w)
 bad-by-one w answers e r p = rw (eq-eqb (length answers) (length (market_of w).lines) (e ∙ sym (lines-count w))) p

@@ -1,8 +1,7 @@
 // The eight calls on a sound store, with every refusal but 1. Who lends a store that may be unsound uses crate calls.
 #![tactic(auto)]
 
-ghost use Rattle.std.specs.Prelude.{◌≡◌, ◌/◌, ltb};
-ghost use Rattle.rules.specs.Lists.{any};
+ghost use Rattle.std.specs.Prelude.{◌≡◌, true, false, ◌/◌, MatchResult};
 ghost use Rattle.rules.specs.Refusals as Rules;
 ghost use Rattle.rules.specs.Refusals.{Subscribe, Snapshot, BookEvent, Print, Drop, Promote, Reset, Tick};
 ghost use Rattle.rules.specs.Answers.{of_step, of_changed, of_lost, of_ticked};
@@ -11,20 +10,24 @@ ghost use Rattle.market.specs.Lent.{lent, alone};
 ghost use Rattle.market_tick.specs.Turns.{lent_all};
 ghost use Rattle.steps.specs.Steps.{Steps, records, report_room};
 
-use rules::{Changed, EventKey, Lost, Step, Ticked};
+use rules::{EventKey, Lost, Refusal, Step, Ticked};
 
-// Whether a list of so many words takes fewer records than a call may put out.
-fn short(s: &[u64], len: usize) -> bool
+// Whether a list of so many words takes as many records as a call may put out.
+fn room(s: &[u64], len: usize) -> Result<(), Refusal>
     requires { Sound s.now }
-    ensures { result ≡ Rules.short (len / 7) (market_of s.now) }
+    ensures { MatchResult result
+        (λ done. Rules.short (len / 7) (market_of s.now) ≡ false)
+        (λ e. (e ≡ Refusal.Room) × (Rules.short (len / 7) (market_of s.now) ≡ true)) }
 {
-    let room = (len / 7) as u64;
     let limits = store::entries::limits(s);
-    room < limits.L * (2 * limits.H + 8) + 1
+    if (len as u64) / 7 < limits.L * (2 * limits.H + 8) + 1 {
+        return Err(Refusal::Room);
+    }
+    Ok(())
 }
 
 // A connection subscribes: its delivered counts go, and its line becomes Waiting, empty, since t, with this limit, 1 to H.
-pub fn subscribe(s: &mut [u64], conn: u64, limit: u64, t: u64) -> Changed
+pub fn subscribe(s: &mut [u64], conn: u64, limit: u64, t: u64) -> Result<(), Refusal>
     requires { Sound s.old }
     ensures { Steps (Subscribe conn limit t) (alone s.old) (of_changed result) (alone s.new) }
 {
@@ -32,17 +35,22 @@ pub fn subscribe(s: &mut [u64], conn: u64, limit: u64, t: u64) -> Changed
 }
 
 // A connection sends a snapshot of a token, 0 or 1.
-pub fn snapshot(s: &mut [u64], out: &mut [u64], conn: u64, token: u64, message: u64, t: u64) -> Step
+pub fn snapshot(
+    s: &mut [u64],
+    out: &mut [u64],
+    conn: u64,
+    token: u64,
+    message: u64,
+    t: u64,
+) -> Result<Step, Refusal>
     requires { Sound s.old }
     ensures { Steps (Snapshot conn token message t (records out.old))
         (lent s.old out.old) (of_step result) (lent s.new out.new) }
 {
     if 1 < token {
-        return Step::Refused(10);
+        return Err(Refusal::Token);
     }
-    if short(s, out.len()) {
-        return Step::Refused(3);
-    }
+    room(s, out.len())?;
     market_snapshots::snapshot(s, out, conn, token, message, t)
 }
 
@@ -54,56 +62,56 @@ pub fn book_event(
     key: EventKey,
     message: u64,
     t: u64,
-) -> Step
+) -> Result<Step, Refusal>
     requires { Sound s.old }
     ensures { Steps (BookEvent conn key message t (records out.old)) (lent s.old out.old) (of_step result) (lent s.new out.new) }
 {
-    if short(s, out.len()) {
-        return Step::Refused(3);
-    }
+    room(s, out.len())?;
     market_events::book_event(s, out, conn, key, message, t)
 }
 
 // A connection sends a print: any message that is neither a snapshot nor a book event.
-pub fn other(s: &mut [u64], out: &mut [u64], conn: u64, key: EventKey, message: u64, t: u64) -> Step
+pub fn other(
+    s: &mut [u64],
+    out: &mut [u64],
+    conn: u64,
+    key: EventKey,
+    message: u64,
+    t: u64,
+) -> Result<Step, Refusal>
     requires { Sound s.old }
     ensures { Steps (Print conn key message t (records out.old))
         (lent s.old out.old) (of_step result) (lent s.new out.new) }
 {
-    if short(s, out.len()) {
-        return Step::Refused(3);
-    }
+    room(s, out.len())?;
     market_prints::other(s, out, conn, key, message, t)
 }
 
 // A connection is gone: its line goes, and if it was in line the others are promoted.
-pub fn drop_conn(s: &mut [u64], out: &mut [u64], conn: u64, t: u64) -> Lost
+pub fn drop_conn(s: &mut [u64], out: &mut [u64], conn: u64, t: u64) -> Result<Lost, Refusal>
     requires { Sound s.old }
     ensures { Steps (Drop conn t (records out.old)) (lent s.old out.old) (of_lost result) (lent s.new out.new) }
 {
-    if short(s, out.len()) {
-        return Lost::Refused(3);
-    }
-    market::promoting::drop_conn(s, out, conn, t)
+    room(s, out.len())?;
+    Ok(market::promoting::drop_conn(s, out, conn, t))
 }
 
 // Where nobody is in line, the line with the best claim takes over.
-pub fn promote(s: &mut [u64], out: &mut [u64], t: u64) -> Lost
+pub fn promote(s: &mut [u64], out: &mut [u64], t: u64) -> Result<Lost, Refusal>
     requires { Sound s.old }
     ensures { Steps (Promote t (records out.old)) (lent s.old out.old) (of_lost result) (lent s.new out.new) }
 {
-    if short(s, out.len()) {
-        return Lost::Refused(3);
-    }
-    market::promoting::promote(s, out, t)
+    room(s, out.len())?;
+    Ok(market::promoting::promote(s, out, t))
 }
 
 // Empties the log; every line but a Failed one becomes Pending, empty, since t.
-pub fn reset(s: &mut [u64], t: u64) -> Changed
+pub fn reset(s: &mut [u64], t: u64) -> Result<(), Refusal>
     requires { Sound s.old }
     ensures { Steps (Reset t) (alone s.old) (of_changed result) (alone s.new) }
 {
-    market::changes::reset(s, t)
+    market::changes::reset(s, t);
+    Ok(())
 }
 
 // Whether the view answers are not one for each line, or one is neither 0 nor 1.
@@ -111,44 +119,29 @@ fn bad_answers(s: &[u64], answers: &[u64]) -> bool
     requires { Sound s.now }
     ensures { result ≡ Rules.bad_answers answers.now (market_of s.now) }
 {
-    let lines = store::conns::count(s);
-    if answers.len() == lines {
-        return above_one(answers);
-    }
-    true
-}
-
-// Whether some word is above 1.
-fn above_one(answers: &[u64]) -> bool
-    ensures { result ≡ any (λ a. ltb 1 a) answers.now }
-{
-    let n = answers.len();
-    let mut i = 0;
-    while i < n {
-        if 1 < answers[i] {
-            return true;
-        }
-        i += 1;
-    }
-    false
+    answers.len() != store::conns::count(s) || answers.iter().any(|answer| 1 < *answer)
 }
 
 // Time passes: old entries and print keys go, and each line has its turn.
-pub fn tick(s: &mut [u64], out: &mut [u64], reports: &mut [u64], answers: &[u64], t: u64) -> Ticked
+pub fn tick(
+    s: &mut [u64],
+    out: &mut [u64],
+    reports: &mut [u64],
+    answers: &[u64],
+    t: u64,
+) -> Result<Ticked, Refusal>
     requires { Sound s.old }
     ensures { Steps (Tick answers.now t (records out.old) (report_room reports.old))
         (lent_all s.old out.old reports.old) (of_ticked result)
         (lent_all s.new out.new reports.new) }
 {
     if bad_answers(s, answers) {
-        return Ticked::Refused(11);
+        return Err(Refusal::ViewAnswers);
     }
-    if short(s, out.len()) {
-        return Ticked::Refused(3);
-    }
+    room(s, out.len())?;
     let lines = store::entries::limits(s).L as usize;
     if reports.len() / 3 < lines {
-        return Ticked::Refused(3);
+        return Err(Refusal::Room);
     }
-    market_tick::tick(s, out, reports, answers, t)
+    Ok(market_tick::tick(s, out, reports, answers, t))
 }

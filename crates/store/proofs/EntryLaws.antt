@@ -1,12 +1,11 @@
 -- The log of a whole store: its head's words, and what a move on it leaves of the market.
+use Rattle.std.specs.Prelude.{Option, None, Some}
 use mathlib.Core.Path.{◌≡◌, refl, sym, ap, ◌∙◌}
 use mathlib.Core.List.{List}
 use Prim.Native.Nat.{ℕ, ◌+◌, ◌*◌, ◌^◌, ◌≤◌, ◌<◌}
 use native.Mathlib.Omega.{arith}
 use lib.ListN.{length, get_or}
 use Rattle.rules.specs.declared.Limits.{Limits}
-use Rattle.rules.specs.declared.Stamp.{Stamp}
-use Rattle.rules.specs.declared.Stamp.TheVariants as Stamp
 use Rattle.rules.specs.Log.{Log, end}
 use Rattle.rules.specs.Lines.{Market, with_log}
 use Rattle.rules.specs.Sound as Rules
@@ -34,7 +33,7 @@ module _ (w : List ℕ) where
   end-said = omega (arith, log-ends w, base_word, count_word)
 
 module _ (w : List ℕ) where
-  head-reads : {s : Stamp} → s ≡ stamp_in (get_or w 7 0) (get_or w 8 0) → record { base = get_or w 5 0; count = get_or w 6 0; last = s; front = get_or w 15 0 } ≡ head_of w
+  head-reads : {s : Option ℕ} → s ≡ stamp_in (get_or w 7 0) (get_or w 8 0) → record { base = get_or w 5 0; count = get_or w 6 0; last = s; front = get_or w 15 0 } ≡ head_of w
   head-reads q =
       let at : (i : ℕ) → i < 4 → get_or w (5 + i) 0 ≡ get_or (part 5 9 w) i 0 = λ i l. sym (get_d_part 5 9 w i (omega arith)) in
       λ j.
@@ -45,10 +44,10 @@ module _ (w : List ℕ) where
         front = get_or w 15 0;
       }
 
-  pub head_never : get_or w 7 0 ≡ 0 → record { base = get_or w 5 0; count = get_or w 6 0; last = Stamp.Never; front = get_or w 15 0 } ≡ head_of w
+  pub head_never : get_or w 7 0 ≡ 0 → record { base = get_or w 5 0; count = get_or w 6 0; last = None; front = get_or w 15 0 } ≡ head_of w
   head_never e = head-reads (ap (λ (f : ℕ). stamp_in f (get_or w 8 0)) (sym e))
 
-  pub head_at : (get_or w 7 0 ≡ 0 → ⊥) → record { base = get_or w 5 0; count = get_or w 6 0; last = Stamp.At (get_or w 8 0); front = get_or w 15 0 } ≡ head_of w
+  pub head_at : (get_or w 7 0 ≡ 0 → ⊥) → record { base = get_or w 5 0; count = get_or w 6 0; last = Some (get_or w 8 0); front = get_or w 15 0 } ≡ head_of w
   head_at n = head-reads (stamp-at (get_or w 7 0) (get_or w 8 0) n)
 
 -- ---- the header's counts are the lengths of the market's lists

@@ -14,7 +14,7 @@ use Rattle.rules.specs.Lines.{with_prints}
 use Rattle.words.specs.Words.{part, back}
 use Rattle.words.proofs.Parts.{part_length, length_back}
 use Rattle.prints.specs.declared.Used.{Used}
-use Rattle.rows.specs.declared.Place.{Place}
+use Rattle.std.specs.Prelude.{Result}
 use Rattle.rows.specs.Tables.{size}
 use Rattle.prints.specs.declared.Found.{Found}
 use Rattle.prints.specs.Area.{prints_of, Fit, Fits, Free, KeyStands, FoundIn}
@@ -55,7 +55,7 @@ module _ {w x : List ℕ} {u : Used} (t : Tabled w) (p : x ≡ table_words w) (q
   tables-sound = subst TablesSound (sym prints-read) t.tables
 
   -- where rows stand
-  pub key_here : (k : Key) (f : Place) → KeyFound w k f → KeyStands x u k f
+  pub key_here : (k : Key) (f : Result ℕ ℕ) → KeyFound w k f → KeyStands x u k f
   key_here k f h = rw (p, q) h
 
   pub found_here : {k : Key} {conn : ℕ} {f : Found} → PrintFound w k conn f → FoundIn (limits_of w).C x u k conn f
@@ -128,7 +128,7 @@ module _ {w : List ℕ} {a e : ℕ} {old : Used} (p : a ≡ tables_at (limits_of
       moved-is (b ∙ (λ j. put_used new (back (p j) (q j) ys w))) (moved_on one two) (λ j. with_prints (read j) (one.market j))
 
   -- where the key's row stands then
-  pub key-done : {v : List ℕ} (new : Used) (i : Key) (l : Place) → KeyStands ys new i l → v ≡ put_used new (back a e ys w) → KeyFound v i l
+  pub key-done : {v : List ℕ} (new : Used) (i : Key) (l : Result ℕ ℕ) → KeyStands ys new i l → v ≡ put_used new (back a e ys w) → KeyFound v i l
   key-done new i l h b =
       let one = tables-moved w ys t.sized kept in
       let words : table_words (put_used new (put_tables ys w)) ≡ ys = used-tables (put_tables ys w) new one.sized ∙ tables-put w ys t.sized kept in

@@ -1,9 +1,8 @@
 -- What a move on a whole store leaves, and what it may ask of the store's words.
-use Rattle.std.specs.Prelude.{◌≡◌, List, ℕ, ◌+◌, ◌^◌, ◌≤◌, ◌<◌}
+use Rattle.std.specs.Prelude.{Result, ◌≡◌, List, ℕ, ◌+◌, ◌^◌, ◌≤◌, ◌<◌}
 use Rattle.rules.specs.Quantities.{Key}
 use Rattle.rules.specs.Lines.{Market}
 use Rattle.rules.specs.Sound.{TablesSound}
-use Rattle.rows.specs.declared.Place.{Place}
 use Rattle.rows.specs.Tables.{size}
 use Rattle.prints.specs.declared.Found.{Found}
 use Rattle.prints.specs.Area.{KeyStands, FoundIn}
@@ -30,7 +29,7 @@ pub record Tabled (w : List ℕ) : Type 0 where
   pub tables : TablesSound (market_of w).prints
 
 -- where the row of the key k stands, and those of a print of it by the connection
-abbrev pub KeyFound : List ℕ → Key → Place → Type 0
+abbrev pub KeyFound : List ℕ → Key → Result ℕ ℕ → Type 0
 KeyFound w k p = KeyStands (table_words w) (used_of w) k p
 
 abbrev pub PrintFound : List ℕ → Key → ℕ → Found → Type 0

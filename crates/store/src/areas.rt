@@ -31,8 +31,7 @@ pub fn line_start(s: &[u64], i: usize) -> usize
     ensures { Starts s.now i result }
 {
     let h = s[1] as usize;
-    let width = 7 * h + 64;
-    lines_start(s) + i * width
+    lines_start(s) + i * (7 * h + 64)
 }
 
 // Where they end.
@@ -52,13 +51,10 @@ pub fn take_out(s: &mut [u64], i: usize)
     let last = s[9] as usize - 1;
     let h = s[1] as usize;
     let width = 7 * h + 64;
-    let mut j = i;
     let mut a = line_start(s, i);
-    while j < last {
-        let b = a + width;
-        lines::area::copy(s, h, b, a);
-        a = b;
-        j += 1;
+    for _j in i..last {
+        lines::area::copy(s, h, a + width, a);
+        a += width;
     }
     s[9] = last as u64;
 }
@@ -72,15 +68,11 @@ pub fn insert(s: &mut [u64], i: usize, conn: u64, limit: u64, t: u64)
     let n = s[9] as usize;
     let h = s[1] as usize;
     let width = 7 * h + 64;
-    let mut j = n;
     let mut a = line_start(s, n);
-    while i < j {
-        let b = a - width;
-        lines::area::copy(s, h, b, a);
-        a = b;
-        j -= 1;
+    for _j in (i..n).rev() {
+        lines::area::copy(s, h, a - width, a);
+        a -= width;
     }
-    let f = a + width;
-    lines::area::put_waiting(&mut s[a..f], conn, limit, t);
+    lines::area::put_waiting(&mut s[a..a + width], conn, limit, t);
     s[9] = (n + 1) as u64;
 }

@@ -104,15 +104,13 @@ pub fn find(s: &[u64], conn: u64) -> usize
     requires { Lined s.now }
     ensures { result ≡ Rules.line_of conn (market_of s.now) }
 {
-    let n = s[9] as usize;
-    let mut i = 0;
-    while i < n {
+    let n = count(s);
+    for i in 0..n {
         if conn_at(s, i) == conn {
             return i;
         }
-        i += 1;
     }
-    i
+    n
 }
 
 // Gives the i-th connection another line; its items and held prints stay.
@@ -143,8 +141,7 @@ pub fn holds_print(s: &[u64], i: usize, key: EventKey) -> bool
     ensures { result ≡ any (λ p. same p.0 key) (conn_at i (market_of s.now)).held }
 {
     let h = s[1] as usize;
-    let area = line_words(s, i);
-    lines::area::holds_print(area, h, key)
+    lines::area::holds_print(line_words(s, i), h, key)
 }
 
 // The j-th print that the i-th line holds.
@@ -153,8 +150,7 @@ pub fn print_at(s: &[u64], i: usize, j: usize) -> HeldPrint
     ensures { (result.key, result.message) ≡ get_or (conn_at i (market_of s.now)).held j no_print }
 {
     let h = s[1] as usize;
-    let area = line_words(s, i);
-    lines::area::print_at(area, h, j)
+    lines::area::print_at(line_words(s, i), h, j)
 }
 
 // The i-th line holds a print behind the others.
@@ -197,13 +193,10 @@ pub fn any_in_line(s: &[u64]) -> bool
     requires { Lined s.now }
     ensures { result ≡ someone (market_of s.now).lines }
 {
-    let n = s[9] as usize;
-    let mut i = 0;
-    while i < n {
+    for i in 0..count(s) {
         if line_at(s, i).in_line() {
             return true;
         }
-        i += 1;
     }
     false
 }
@@ -213,13 +206,10 @@ pub fn some_due(s: &[u64]) -> bool
     requires { Lined s.now }
     ensures { result ≡ some_due (market_of s.now).lines }
 {
-    let n = s[9] as usize;
-    let mut i = 0;
-    while i < n {
+    for i in 0..count(s) {
         if line_at(s, i).due() {
             return true;
         }
-        i += 1;
     }
     false
 }
@@ -229,14 +219,11 @@ pub fn pendings(s: &[u64]) -> usize
     requires { Lined s.now }
     ensures { result ≡ pending_lines (market_of s.now).lines }
 {
-    let n = s[9] as usize;
     let mut pending = 0;
-    let mut i = 0;
-    while i < n {
+    for i in 0..count(s) {
         if line_at(s, i).pending() {
             pending += 1;
         }
-        i += 1;
     }
     pending
 }
@@ -246,12 +233,9 @@ pub fn held_items(s: &[u64]) -> usize
     requires { (Lined s.now) × (item_count (market_of s.now).lines ≤ max_number) }
     ensures { result ≡ item_count (market_of s.now).lines }
 {
-    let n = s[9] as usize;
     let mut held = 0;
-    let mut i = 0;
-    while i < n {
+    for i in 0..count(s) {
         held += line_at(s, i).held();
-        i += 1;
     }
     held
 }

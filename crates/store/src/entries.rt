@@ -7,7 +7,7 @@ ghost use Rattle.store.specs.Store.{limits_of, head_of, put_head, key_words, mar
 ghost use Rattle.store.specs.Moves.{Moved, Counts};
 
 use event_log::Head;
-use rules::{EventKey, Limits, Stamp};
+use rules::{EventKey, Limits};
 
 // The market's limits.
 pub fn limits(s: &[u64]) -> Limits
@@ -28,24 +28,11 @@ pub fn head(s: &[u64]) -> Head
     requires { 64 ≤ length s.now }
     ensures { result ≡ head_of s.now }
 {
-    let base = s[5];
-    let count = s[6] as usize;
-    let flag = s[7];
-    let t = s[8];
-    let front = s[15] as usize;
-    if flag == 0 {
-        return Head {
-            base,
-            count,
-            last: Stamp::Never,
-            front,
-        };
-    }
     Head {
-        base,
-        count,
-        last: Stamp::At(t),
-        front,
+        base: s[5],
+        count: s[6] as usize,
+        last: lines::area::stamp(s[7], s[8]),
+        front: s[15] as usize,
     }
 }
 
@@ -87,8 +74,7 @@ pub fn keys(s: &[u64]) -> &[u64]
     ensures { result.now ≡ key_words s.now }
 {
     let g = s[2] as usize;
-    let e = 64 + 2 * g;
-    &s[64..e]
+    &s[64..64 + 2 * g]
 }
 
 // Writes the log's head.
@@ -96,15 +82,13 @@ fn put_head(s: &mut [u64], head: Head)
     requires { 64 ≤ length s.old }
     ensures { s.new ≡ put_head head s.old }
 {
-    let base = head.base;
-    let count = head.count;
-    let last = head.last;
-    let front = head.front;
-    match last {
-        Stamp::Never => words::put4(&mut s[5..9], base, count as u64, 0, 0),
-        Stamp::At(t) => words::put4(&mut s[5..9], base, count as u64, 1, t),
-    }
-    s[15] = front as u64;
+    s[5..9].copy_from_slice(&[
+        head.base,
+        head.count as u64,
+        u64::from(head.last.is_some()),
+        head.last.unwrap_or(0),
+    ]);
+    s[15] = head.front as u64;
 }
 
 // Adds an entry at the log's end and sets last-applied.
@@ -114,10 +98,10 @@ pub fn push(s: &mut [u64], key: EventKey, t: u64)
     ensures { Moved s.old s.new (with_log (push key t (market_of s.old).log) (market_of s.old)) }
 {
     let g = s[2] as usize;
-    let e = crate::areas::tables_start(s);
-    let old = head(s);
-    let new = log_borrowed::lent::push_head(&mut s[64..e], g, old, key, t);
-    put_head(s, new);
+    let end = crate::areas::tables_start(s);
+    let mut head = head(s);
+    log_borrowed::lent::push(&mut s[64..end], g, &mut head, key, t);
+    put_head(s, head);
 }
 
 // Sets last-applied.
@@ -125,8 +109,8 @@ pub fn stamp(s: &mut [u64], t: u64)
     requires { Sized s.old }
     ensures { Moved s.old s.new (with_log (stamp t (market_of s.old).log) (market_of s.old)) }
 {
-    let new = event_log::stamp(head(s), t);
-    put_head(s, new);
+    let head = event_log::stamp(head(s), t);
+    put_head(s, head);
 }
 
 // Empties the log; the numbers go on.
@@ -135,8 +119,9 @@ pub fn clear_log(s: &mut [u64])
     requires s_bound { (head_of s.old).base + (head_of s.old).count < 2 ^ 64 }
     ensures { Moved s.old s.new (with_log (clear (market_of s.old).log) (market_of s.old)) }
 {
-    let new = log_borrowed::lent::clear_head(head(s));
-    put_head(s, new);
+    let mut head = head(s);
+    log_borrowed::lent::clear(&mut head);
+    put_head(s, head);
 }
 
 // Drops the log's entries at the front that are too old to stay at t.
@@ -146,8 +131,8 @@ pub fn prune(s: &mut [u64], t: u64)
     ensures { Moved s.old s.new (with_log (prune t (market_of s.old).log) (market_of s.old)) }
 {
     let g = s[2] as usize;
-    let e = crate::areas::tables_start(s);
-    let old = head(s);
-    let new = event_log::prune(&s[64..e], g, old, t);
-    put_head(s, new);
+    let end = crate::areas::tables_start(s);
+    let head = head(s);
+    let pruned = event_log::prune(&s[64..end], g, head, t);
+    put_head(s, pruned);
 }

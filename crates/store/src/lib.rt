@@ -28,6 +28,6 @@ pub fn put_header(s: &mut [u64], l: Limits, start: u64)
     requires { 64 ≤ length s.old }
     ensures { (market_of s.new ≡ fresh l start) × ((layout_of s.new ≡ layout) × ((head_of s.new).front ≡ 0)) }
 {
-    words::put8(&mut s[0..8], l.L, l.H, l.G, l.C, l.D, start, 0, 0);
-    words::put8(&mut s[8..16], 0, 0, 0, 0, LAYOUT, 0, 0, 0);
+    s[0..8].copy_from_slice(&[l.L, l.H, l.G, l.C, l.D, start, 0, 0]);
+    s[8..16].copy_from_slice(&[0, 0, 0, 0, LAYOUT, 0, 0, 0]);
 }

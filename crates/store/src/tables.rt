@@ -73,8 +73,7 @@ pub fn delivered(s: &[u64], key: EventKey, conn: u64, found: Found) -> u64
     ensures { result ≡ delivered_in key conn (market_of s.now).prints.count_rows }
 {
     let c = s[3] as usize;
-    let place = found.pair;
-    prints::delivered(area(s), c, used(s), key, conn, place)
+    prints::delivered(area(s), c, used(s), key, conn, found.pair)
 }
 
 // A print of the key by the connection needs a row, and none is free.
@@ -100,10 +99,9 @@ pub fn deliver(s: &mut [u64], key: EventKey, conn: u64, t: u64, found: Found) ->
     let a = crate::areas::tables_start(s);
     let e = crate::areas::lines_start(s);
     let old = used(s);
-    let new = prints::deliver(&mut s[a..e], c, old, key, conn, t, found);
-    let place = new.key;
-    put_used(s, new.used);
-    place
+    let counted = prints::deliver(&mut s[a..e], c, old, key, conn, t, found);
+    put_used(s, counted.used);
+    counted.key
 }
 
 // n copies of the print have been applied.

@@ -1,7 +1,7 @@
 -- Lists made from an index, with the rules' tests.
+use Rattle.std.specs.Prelude.{None, Some}
 use mathlib.Core.Path.{◌≡◌, refl, sym, ◌∙◌, ap}
 use mathlib.Core.List.{List, [], ◌∷◌, ◌++◌}
-use mathlib.Core.Option.{none, some}
 use mathlib.Core.Bool.{Bool, true, false, ◌||◌, cond}
 use Prim.Native.Nat.{ℕ, zero, suc, ◌+◌, ◌≤◌, ◌<◌, suc-le-suc}
 use native.Mathlib.Nat.{not-suc-le-zero, le_of_suc-le-suc}
@@ -64,12 +64,12 @@ module _ {A : Type 0} where
       go true q z r = record { at = 0; within = omega arith; passes = q }
       go false q z r = record { at = suc (r z).at; within = suc-le-suc (r z).within; passes = (r z).passes }
 
-  pub first-at : (t : A → Bool) (n : ℕ) (f : ℕ → A) (i : ℕ) → i < n → ((k : ℕ) → k < i → t (f k) ≡ false) → t (f i) ≡ true → first t (tab n f) ≡ some (f i)
+  pub first-at : (t : A → Bool) (n : ℕ) (f : ℕ → A) (i : ℕ) → i < n → ((k : ℕ) → k < i → t (f k) ≡ false) → t (f i) ≡ true → first t (tab n f) ≡ Some (f i)
   first-at t zero f i h b e = absurd (not-suc-le-zero h)
   first-at t (suc n) f zero h b e = rw e
   first-at t (suc n) f (suc i) h b e = rw (b 0 (omega arith)) (first-at t n (λ k. f (suc k)) i (le_of_suc-le-suc h) (λ k l. b (suc k) (suc-le-suc l)) e)
 
-  pub first-none : (t : A → Bool) (n : ℕ) (f : ℕ → A) → ((k : ℕ) → k < n → t (f k) ≡ false) → first t (tab n f) ≡ none
+  pub first-none : (t : A → Bool) (n : ℕ) (f : ℕ → A) → ((k : ℕ) → k < n → t (f k) ≡ false) → first t (tab n f) ≡ None
   first-none t zero f h = refl
   first-none t (suc n) f h = rw (h 0 (omega arith)) (first-none t n (λ k. f (suc k)) (λ k l. h (suc k) (suc-le-suc l)))
 

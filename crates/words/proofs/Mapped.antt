@@ -1,7 +1,7 @@
 -- The rules' tests and changes of a list that is mapped.
+use Rattle.std.specs.Prelude.{Some}
 use mathlib.Core.Path.{◌≡◌, refl, ap}
 use mathlib.Core.List.{List, [], ◌∷◌, map}
-use mathlib.Core.Option.{some}
 use mathlib.Core.Bool.{Bool, true, false, ◌||◌, cond}
 use Rattle.rules.specs.Lists.{any, first, amend, insert, keep, maybe, Each, Rising}
 
@@ -15,7 +15,7 @@ module _ {A B : Type 0} (f : A → B) where
   first-map c g t (x ∷ xs) = go (t (f x)) (first-map c g t xs)
     where
       go : (b : Bool) → maybe c g (first t (map f xs)) ≡ maybe c (λ y. g (f y)) (first (λ y. t (f y)) xs)
-          → maybe c g (cond b (some (f x)) (first t (map f xs))) ≡ maybe c (λ y. g (f y)) (cond b (some x) (first (λ y. t (f y)) xs))
+          → maybe c g (cond b (Some (f x)) (first t (map f xs))) ≡ maybe c (λ y. g (f y)) (cond b (Some x) (first (λ y. t (f y)) xs))
       go true e = refl
       go false e = e
 

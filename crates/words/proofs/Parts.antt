@@ -1,10 +1,10 @@
 -- Laws of parts that are lent and come back.
-use mathlib.Core.Path.{◌≡◌, refl, sym, ap, ◌∙◌}
-use mathlib.Core.List.{List, [], ◌∷◌, ◌++◌}
-use Prim.Native.Nat.{ℕ, suc, ◌+◌, ◌-◌, ◌≤◌, ◌<◌}
+use mathlib.Core.Path.{◌≡◌, sym, ◌∙◌}
+use mathlib.Core.List.{List, ◌++◌}
+use Prim.Native.Nat.{ℕ, ◌+◌, ◌-◌, ◌≤◌, ◌<◌}
 use native.Mathlib.Nat.{add-zero}
 use native.Mathlib.Omega.{arith}
-use lib.ListN.{length, take, drop, get_or, set, length-take, length-drop, length-append, get_or-append}
+use lib.ListN.{length, take, drop, get_or, length-take, length-drop, length-append, get_or-append}
 use Rattle.words.specs.Words.{part, back}
 use lib.Seq.{get_or-take, get_or-drop, get_or-append-add, ext_get_or}
 
@@ -71,20 +71,3 @@ module _ (a e : ℕ) (ys w : List ℕ) (h : Loan a e ys w) where
 
   pub part-after : (b f : ℕ) → e ≤ b → f ≤ length w → part b f (back a e ys w) ≡ part b f w
   part-after b f l m = part_ext b f (back a e ys w) w length_back m (λ i n o. back_above i (omega arith))
-
--- a row that is written whole, word by word: as many sets as it has words
-unfoldable pub written : ℕ → List ℕ → List ℕ → List ℕ
-written i [] w = w
-written i (x ∷ xs) w = written (suc i) xs (set w i x)
-
-written-cons : (a : ℕ) (xs w : List ℕ) (i : ℕ) → written (suc i) xs (a ∷ w) ≡ a ∷ written i xs w
-unfolding written
-written-cons a [] w i = refl
-written-cons a (x ∷ xs) w i = written-cons a xs (set w i x) (suc i)
-
-pub written_all : (xs w : List ℕ) → length w ≡ length xs → written 0 xs w ≡ xs
-unfolding written
-written_all [] [] h = refl
-written_all [] (a ∷ w) h = absurd (omega arith)
-written_all (x ∷ xs) [] h = absurd (omega arith)
-written_all (x ∷ xs) (a ∷ w) h = written-cons x xs w 0 ∙ ap {B = List ℕ} (λ l. x ∷ l) (written_all xs w (omega arith))

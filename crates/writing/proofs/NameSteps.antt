@@ -1,7 +1,7 @@
 -- A member in parts: its name, the colon, the place of its value.
+use Rattle.std.specs.Prelude.{Some}
 use mathlib.Core.Path.{◌≡◌, refl, sym, ◌∙◌, ap}
 use mathlib.Core.List.{List, ◌∷◌}
-use mathlib.Core.Option.{some}
 use Prim.Native.Nat.{ℕ, ◌+◌, ◌≤◌, ◌<◌}
 use native.Mathlib.Omega.{arith}
 use lib.ListN.{length, drop, length-drop}
@@ -53,7 +53,7 @@ module _ {t : List ℕ} {at e : ℕ} (m : MemberSpans t at e) where
   member-takes = omega (arith, name-fits, m.spans.on)
 
   -- behind the name
-  module _ (r : ℕ) (p : (s : List ℕ) → chars_rest (drop (at + 1) t) ≡ some s → drop r t ≡ s) where
+  module _ (r : ℕ) (p : (s : List ℕ) → chars_rest (drop (at + 1) t) ≡ Some s → drop r t ≡ s) where
     behind-name : drop r t ≡ parts.behind
     behind-name = p parts.behind (rw behind-here at (chars_rest_lem parts.chars))
 

@@ -1,8 +1,8 @@
 -- What the functions put: a short length, one char, a string char by char.
+use Rattle.std.specs.Prelude.{None, Option, Some}
 use mathlib.Core.Path.{◌≡◌, refl, sym, ◌∙◌, ap}
 use mathlib.Core.Bool.{true}
 use mathlib.Core.List.{List, [], ◌∷◌, ◌++◌, append-nil, append_assoc}
-use mathlib.Core.Option.{Option, none, some}
 use Prim.Native.Nat.{ℕ, ◌+◌, ◌-◌, ◌/◌, ◌%◌, ◌≤◌, ◌<◌}
 use native.Mathlib.Numerals.{add-one, add-two}
 use native.Mathlib.Omega.{arith}
@@ -52,10 +52,10 @@ header-done o pos tag n h k =
     rw (b, little-short n k) (written_then pos x (zeros 6) o (omega arith))
 
 -- nothing follows where there is no end
-pub no-rest : {o : Option (List ℕ)} → o ≡ none → (s : List ℕ) → o ≡ some s → ⊥
+pub no-rest : {o : Option (List ℕ)} → o ≡ None → (s : List ℕ) → o ≡ Some s → ⊥
 no-rest e s k = let z : ◌≡◌ {A = ℕ} 0 1 = cc in omega arith
 
-pub same_rest : {o : Option (List ℕ)} {r : List ℕ} → o ≡ some r → (s : List ℕ) → o ≡ some s → r ≡ s
+pub same_rest : {o : Option (List ℕ)} {r : List ℕ} → o ≡ Some r → (s : List ℕ) → o ≡ Some s → r ≡ s
 same_rest e s k = cc
 
 -- a string that is put up to a place
@@ -79,7 +79,7 @@ module _ {t : List ℕ} {at : ℕ} {o o' : List ℕ} {pos i end : ℕ} (p : Part
 
   -- no char follows: FF
   pub partly-ends :
-      chars_text (drop i t) ≡ [] → (e : ℕ) → e ≤ length t → ((s : List ℕ) → chars_rest (drop i t) ≡ some s → drop e t ≡ s) →
+      chars_text (drop i t) ≡ [] → (e : ℕ) → e ≤ length t → ((s : List ℕ) → chars_rest (drop i t) ≡ Some s → drop e t ≡ s) →
       PutString t at o (set o' end 0xFF) pos (record { at = e; pos = end + 1 })
   partly-ends z e fits f =
       let x : chars_text (drop at t) ≡ p.front = p.text ∙ (ap (λ (y : List ℕ). p.front ++ y) z ∙ append-nil p.front) in

@@ -2,7 +2,6 @@
 use mathlib.Core.Path.{◌≡◌, refl, sym, ◌∙◌, ap}
 use mathlib.Core.Bool.{true, false, ◌||◌, or-true, or-false}
 use mathlib.Core.List.{List, [], ◌∷◌, ◌++◌}
-use mathlib.Core.Option.{some}
 use Prim.Native.Nat.{ℕ, ◌+◌, ◌-◌, ◌≤◌, ◌<◌}
 use native.Mathlib.Omega.{arith}
 use borrow.Author.Tests.{eq-eqb, ne_eqb, eqb-true}
@@ -15,9 +14,8 @@ use Rattle.json_text.specs.Grammar.{Chars}
 use Rattle.json_text.specs.Numbers.{Number}
 use Rattle.json_text.specs.Values.{Value, null, boolean, number, string, array, object}
 use Rattle.json_text.specs.Work.{byte_at, chars_rest, number_rest, up_to, Ends}
-use Rattle.json_text.specs.declared.End.{End}
+use Rattle.std.specs.Prelude.{Option, Some, IsSome}
 use Rattle.json_text.proofs.CharsLaws.{chars_rest_lem}
-use Rattle.json_text.proofs.EndLaws.{ends-nowhere-reads, ends-at-reads, ends-at-beyond}
 use Rattle.json_text.proofs.Fronts.{starts_number, starts, val-starts}
 use Rattle.json_text.proofs.Inversion.{val-null, val-true, val-false, val-string, val-number}
 use Rattle.json_text.proofs.NumberLaws.{number-rest}
@@ -26,7 +24,7 @@ use Rattle.member_order.specs.Names.{chars_text}
 use Rattle.member_order.proofs.TextLaws.{chars-text}
 use Rattle.writing.specs.declared.Spot.{Spot}
 use Rattle.writing.specs.Writing.{written, PutString, WritesScalar, WroteScalar}
-use Rattle.writing.proofs.Spanning.{one_place}
+use Rattle.writing.proofs.Spanning.{one_place, found_some, place_found}
 use Rattle.writing.proofs.WrittenLaws.{written_one, written_then, written_next}
 
 -- the bytes of a text from one place up to another
@@ -130,7 +128,7 @@ module _ (t out : List ℕ) (at pos : ℕ) (w : WritesScalar t out at pos) where
     string_bytes : canonical (content value) ≡ 3 ∷ (text ++ 0xFF ∷ [])
     string_bytes = let q = string-chars in canonical-string (q.1 ∙ ap string (sym (chars-text q.2)))
 
-    string-ends : chars_rest (drop (at + 1) t) ≡ some (drop end t)
+    string-ends : chars_rest (drop (at + 1) t) ≡ Some (drop end t)
     string-ends = chars_rest_lem string-chars.2
 
     pub string-room : pos + 1 + length text + 1 ≤ length out
@@ -150,7 +148,7 @@ module _ (t out : List ℕ) (at pos : ℕ) (w : WritesScalar t out at pos) where
     unfolding starts_number
     number_is = val-number w.spans.is (rw byte-here b)
 
-    number-ends : number_rest (drop at t) ≡ some (drop end t)
+    number-ends : number_rest (drop at t) ≡ Some (drop end t)
     number-ends = number-rest number_is.1 w.spans.stop
 
     number-bytes : canonical (content value) ≡ 2 ∷ (take (end - at) (drop at t) ++ 0xFF ∷ [])
@@ -161,18 +159,12 @@ module _ (t out : List ℕ) (at pos : ℕ) (w : WritesScalar t out at pos) where
     number-length : length (take (end - at) (drop at t)) ≡ end - at
     number-length = let s = w.spans in simp (length-take, length-drop) (omega arith)
 
-    module _ (r : End) (z : Ends t (at + 1) (number_rest (drop at t)) r) where
-      pub number-somewhere : r ≡ End.Nowhere → ⊥
-      number-somewhere e =
-          let n = ends-nowhere-reads t _ _ r z e in
-          let p = number-ends in
-          let c : ◌≡◌ {A = ℕ} 0 1 = cc in omega arith
+    module _ (r : Option ℕ) (z : Ends t (at + 1) (number_rest (drop at t)) r) where
+      pub number-some : IsSome r
+      number-some = found_some t (at + 1) end _ r z number-ends
 
-      pub number-end-is : (e : ℕ) → r ≡ End.At e → e ≡ end
-      number-end-is e p =
-          let q = ends-at-reads t _ _ r z e p in
-          let n = number-ends in
-          one_place t e end (cc) (ends-at-beyond t _ _ r z e p).1 w.spans.fits
+      pub number-end-is : (e : ℕ) → r ≡ Some e → e ≡ end
+      number-end-is e p = place_found t (at + 1) end e _ r z number-ends w.spans.fits p
 
     pub number-room : pos + 1 + (end - at) + 1 ≤ length out
     number-room = omega (arith, scalar-room _ number-bytes, tagged-length 2 (take (end - at) (drop at t)), number-length)

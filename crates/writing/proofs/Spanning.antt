@@ -2,14 +2,13 @@
 use mathlib.Core.Path.{◌≡◌, refl, sym, ◌∙◌, subst}
 use mathlib.Core.Bool.{Bool, true, false}
 use mathlib.Core.List.{List, ◌∷◌}
-use mathlib.Core.Option.{Option, some}
 use Prim.Native.Nat.{ℕ, ◌+◌, ◌≤◌, ◌<◌}
 use native.Mathlib.Omega.{arith}
 use borrow.Author.Tests.{eqb-true, eqb-false}
 use lib.Dec.{eqb}
 use lib.ListN.{length, drop, get_or, set, length-drop}
 use lib.Seq.{get_or-set_same, get_or-set_other}
-use Rattle.json_text.specs.declared.End.{End}
+use Rattle.std.specs.Prelude.{Option, Some, None, IsSome}
 use Rattle.json_text.specs.Bytes.{is_ws}
 use Rattle.json_text.specs.Grammar.{Ws, Val}
 use Rattle.json_text.specs.Work.{byte_at, skip_ws}
@@ -20,7 +19,7 @@ use Rattle.json_text.proofs.NameLaws.{name-rest}
 use Rattle.json_text.proofs.OneValue.{val-only}
 use Rattle.json_text.proofs.Spaces.{skips-ws, skipped-front}
 use Rattle.json_text.proofs.Tests.{same, no-some}
-use Rattle.writing.specs.Places.{place_of, Spans, Ends, MemberSpans}
+use Rattle.writing.specs.Places.{Spans, Ends, MemberSpans}
 
 -- what is left tells the place
 pub one_place : (t : List ℕ) (a b : ℕ) → drop a t ≡ drop b t → a ≤ length t → b ≤ length t → a ≡ b
@@ -51,12 +50,16 @@ member-one t q a b m n =
     spans-one t m.at n.at a b m.spans n.spans (cc)
 
 -- an end that was found where e is one
+pub found_some : (t : List ℕ) (low e : ℕ) (o : Option (List ℕ)) (r : Option ℕ) → Found t low o r → o ≡ Some (drop e t) → IsSome r
+found_some t low e o (Some n) f h = refl
+found_some t low e o None f h = no-some (f.rest ∙ h)
+
 pub place_found :
-    (t : List ℕ) (low e : ℕ) (o : Option (List ℕ)) (r : End) → Found t low o r → o ≡ some (drop e t) → e ≤ length t → place_of r ≡ e
-place_found t low e o (End.At n) f h k =
-    let l : drop n t ≡ drop e t = same (f.rest ∙ h) in
-    one_place t n e l f.beyond.1 k
-place_found t low e o End.Nowhere f h k = no-some (f.rest ∙ h)
+    (t : List ℕ) (low e n : ℕ) (o : Option (List ℕ)) (r : Option ℕ) → Found t low o r → o ≡ Some (drop e t) → e ≤ length t → r ≡ Some n → n ≡ e
+place_found t low e n o r f h k q =
+    let g : Found t low o (Some n) = rw q at f in
+    let l : drop n t ≡ drop e t = same (g.rest ∙ h) in
+    one_place t n e l g.beyond.1 k
 
 -- a member by the end of its value
 pub member-to : (t : List ℕ) (q e n : ℕ) (m : MemberSpans t q e) (z : ℕ) → n ≡ m.at → Spans t n z → MemberSpans t q z

@@ -7,6 +7,7 @@ use native.Mathlib.Numerals.{add-one}
 use native.Mathlib.Omega.{arith}
 use lib.ListN.{length, take, drop, get_or, set, length-append, length-take, length-drop, take-append-drop}
 use lib.Seq.{take_at, drop_at, take-take, take-append-le, drop-drop, set_split, take-suc, get_or-drop, sets, sets-eq}
+use borrow.Rule.Slice.PartMut.{put_mid}
 use Rattle.writing.specs.Writing.{written}
 
 -- a list in three parts, cut behind the second
@@ -73,6 +74,11 @@ pub written_next :
 written_next at x o n b e h =
     rw e (written_one (at + length x) b (written at x o) (omega (arith, written-length at x o (omega arith)))
     ∙ written_then at x (b ∷ []) o (omega arith))
+
+-- the bytes x copied over as many
+pub written_mid : (at k : ℕ) (y : List ℕ) {x : List ℕ} (o : List ℕ) → k ≡ length y → y ≡ x → put_mid at k o y ≡ written at x o
+unfolding written
+written_mid at k y o e f = rw (← f, e, drop-drop (length y) at o)
 
 -- the bytes of a text from one place up to another, and one more
 pub run_length : (t : List ℕ) (from i : ℕ) → i ≤ length t → length (take (i - from) (drop from t)) ≡ i - from

@@ -1,15 +1,9 @@
 -- Where values and members stand in a text.
 use Rattle.std.specs.Prelude.{◌≡◌, false, List, [], ◌∷◌, ℕ, ◌-◌, ◌≤◌, ◌<◌, length, drop, get_or}
-use Rattle.json_text.specs.declared.End.{End}
 use Rattle.json_text.specs.Content.{content, put}
 use Rattle.json_text.specs.Grammar.{Name, Val}
 use Rattle.json_text.specs.Values.{Value, Members, no_members, member}
 use Rattle.json_text.specs.Work.{byte_at, goes_on}
-
--- the place that an end has, 0 where it has none
-abbrev pub place_of : End → ℕ
-place_of (End.At e) = e
-place_of End.Nowhere = 0
 
 -- a value from a place up to an end, where nothing lengthens it
 pub record Spans (t : List ℕ) (at end : ℕ) : Type 0 where

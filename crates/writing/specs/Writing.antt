@@ -1,6 +1,5 @@
 -- What the work leaves in the lists that it is lent.
-use Rattle.std.specs.Prelude.{◌≡◌, List, [], ◌∷◌, ◌++◌, ℕ, ◌+◌, ◌-◌, ◌*◌, ◌≤◌, ◌<◌, length, take, drop, get_or}
-use Rattle.std.proofs.Math.Option.{some}
+use Rattle.std.specs.Prelude.{Some, ◌≡◌, List, [], ◌∷◌, ◌++◌, ℕ, ◌+◌, ◌-◌, ◌*◌, ◌≤◌, ◌<◌, length, take, drop, get_or}
 use Rattle.json_text.specs.Canonical.{canonical}
 use Rattle.json_text.specs.Content.{content}
 use Rattle.json_text.specs.Refusals.{longest}
@@ -27,7 +26,7 @@ pub record PutString (t : List ℕ) (at : ℕ) (out out' : List ℕ) (pos : ℕ)
   pub bytes : out' ≡ written pos (chars_text (drop at t) ++ 0xFF ∷ []) out
   pub next : r.pos ≡ pos + length (chars_text (drop at t)) + 1
   pub fits : r.at ≤ length t
-  pub end : (s : List ℕ) → chars_rest (drop at t) ≡ some s → drop r.at t ≡ s
+  pub end : (s : List ℕ) → chars_rest (drop at t) ≡ Some s → drop r.at t ≡ s
 
 -- what skipping a value asks for
 pub record Skippable (t ends : List ℕ) (at : ℕ) : Type 0 where

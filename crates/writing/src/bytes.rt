@@ -18,13 +18,8 @@ pub fn put_text(text: &[u8], from: usize, to: usize, out: &mut [u8], pos: usize)
     ensures { (out.new ≡ written pos (take (to - from) (drop from text.now)) out.old)
         × (result ≡ pos + (to - from)) }
 {
-    let mut i = from;
-    let mut end = pos;
-    while i < to {
-        out[end] = text[i];
-        end += 1;
-        i += 1;
-    }
+    let end = pos + (to - from);
+    out[pos..end].copy_from_slice(&text[from..to]);
     end
 }
 
@@ -36,10 +31,8 @@ pub fn put_header(out: &mut [u8], pos: usize, tag: u8, count: usize)
     out[pos] = tag;
     out[pos + 1] = (count % 256) as u8;
     out[pos + 2] = (count / 256) as u8;
-    let mut i: usize = 3;
-    while i < 9 {
+    for i in 3..9usize {
         out[pos + i] = 0;
-        i += 1;
     }
 }
 
@@ -85,10 +78,9 @@ fn put_special(text: &[u8], at: usize, out: &mut [u8], pos: usize) -> Spot
         × (0 < char_len (drop at text.now) → pos + length (char_text (drop at text.now)) ≤ length out.old) }
     ensures { PutChar text.now at out.old out.new pos result }
 {
-    let n = special_len(text, at);
-    if n == 0 {
+    let Some(n) = special_len(text, at) else {
         return Spot { at, pos };
-    }
+    };
     let end = put_char(text, at, n, out, pos);
     Spot {
         at: at + n,
@@ -105,6 +97,7 @@ pub fn put_string(text: &[u8], at: usize, out: &mut [u8], pos: usize) -> Spot
 {
     let mut i = at;
     let mut end = pos;
+    // By the lengths of the chars: a `for` does not say it plainer.
     while i < text.len() {
         let b = text[i];
         if b == 0x22 {

@@ -46,6 +46,7 @@ pub fn collect(
     if byte(text, i) == 0x7D {
         return Collected { count, end: i + 1 };
     }
+    // Up to the bracket that closes it: a `for` does not say it plainer.
     loop {
         places[top + count] = i as u64;
         count += 1;

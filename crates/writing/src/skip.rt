@@ -3,29 +3,13 @@
 ghost use Rattle.std.specs.Prelude.{ℕ, ◌≤◌, length, ◌≡◌};
 ghost use Rattle.json_text.specs.Refusals.{longest};
 ghost use Rattle.json_text.specs.Work.{byte_at};
-ghost use Rattle.writing.specs.Places.{place_of, Spans, Ends, MemberSpans};
+ghost use Rattle.writing.specs.Places.{Spans, Ends, MemberSpans};
 ghost use Rattle.writing.specs.Writing.{Skippable, SkippableMember};
 
-use json_text::End;
 use json_text::bytes::{byte, is_digit, skip_ws};
 use json_text::names::literal_end;
 use json_text::numbers::number_end;
 use json_text::strings::skip_string;
-
-fn wide(x: u16) -> usize
-    ensures { result ≡ x }
-{
-    x as usize
-}
-
-fn place_of(end: End) -> usize
-    ensures { result ≡ place_of end }
-{
-    match end {
-        End::At(place) => place,
-        End::Nowhere => 0,
-    }
-}
 
 // The end of a string, a number or a literal.
 fn scalar_end(text: &[u8], at: usize) -> usize
@@ -37,13 +21,10 @@ fn scalar_end(text: &[u8], at: usize) -> usize
     if b == 0x22 {
         return skip_string(text, at + 1);
     }
-    if b == 0x2D {
-        return place_of(number_end(text, at));
+    if b == 0x2D || is_digit(b) {
+        return number_end(text, at).unwrap();
     }
-    if is_digit(b) {
-        return place_of(number_end(text, at));
-    }
-    place_of(literal_end(text, at))
+    literal_end(text, at).unwrap()
 }
 
 #[cycle(member_end_skip_array_skip_object_skip_value_value_end)]
@@ -55,6 +36,7 @@ fn skip_array(text: &[u8], at: usize, ends: &mut [u16]) -> usize
     if byte(text, i) == 0x5D {
         return i + 1;
     }
+    // Up to the bracket that closes it: a `for` does not say it plainer.
     loop {
         let end = skip_value(text, i, ends);
         let behind = skip_ws(text, end);
@@ -85,6 +67,7 @@ fn skip_object(text: &[u8], at: usize, ends: &mut [u16]) -> usize
     if byte(text, i) == 0x7D {
         return i + 1;
     }
+    // Up to the bracket that closes it: a `for` does not say it plainer.
     loop {
         let end = member_end(text, i, ends);
         let behind = skip_ws(text, end);
@@ -117,7 +100,7 @@ pub fn skip_value(text: &[u8], at: usize, ends: &mut [u16]) -> usize
     requires { Skippable text.now ends.old at }
     ensures { Spans text.now at result × Ends text.now ends.new }
 {
-    let known = wide(ends[at]);
+    let known = usize::from(ends[at]);
     if known != 0 {
         return known;
     }

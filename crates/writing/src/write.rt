@@ -7,10 +7,9 @@ ghost use Rattle.writing.specs.Writing.{WritesScalar, WroteScalar, Writable, Wro
 use crate::Spot;
 use crate::bytes::{put_header, put_string, put_text};
 use crate::collect::collect;
-use json_text::End;
 use json_text::bytes::{byte, is_digit, skip_ws};
 use json_text::numbers::number_end;
-use member_order::sort::{sort, wide};
+use member_order::sort::sort;
 
 // A string, whose first mark stands at the place.
 fn write_string(text: &[u8], at: usize, out: &mut [u8], pos: usize) -> Spot
@@ -25,9 +24,7 @@ fn write_number(text: &[u8], at: usize, out: &mut [u8], pos: usize) -> Spot
     requires { WritesScalar text.now out.old at pos × ((eqb (byte_at text.now at) 0x2D || is_digit (byte_at text.now at)) ≡ true) }
     ensures { WroteScalar text.now out.old out.new at pos result }
 {
-    let End::At(end) = number_end(text, at) else {
-        return Spot { at, pos };
-    };
+    let end = number_end(text, at).unwrap();
     out[pos] = 2;
     let last = put_text(text, at, end, out, pos + 1);
     out[last] = 0xFF;
@@ -74,10 +71,7 @@ fn write_scalar(text: &[u8], at: usize, out: &mut [u8], pos: usize) -> Spot
     if b == 0x22 {
         return write_string(text, at, out, pos);
     }
-    if b == 0x2D {
-        return write_number(text, at, out, pos);
-    }
-    if is_digit(b) {
+    if b == 0x2D || is_digit(b) {
         return write_number(text, at, out, pos);
     }
     write_literal(text, at, b, out, pos)
@@ -110,6 +104,7 @@ fn write_array(
             pos: end,
         };
     }
+    // Up to the bracket that closes it: a `for` does not say it plainer.
     loop {
         let next = write_value(text, i, ends, places, merged, names, top, out, end);
         end = next.pos;
@@ -171,9 +166,8 @@ fn write_object(
     let count = sort(names, places, merged, top, all.count);
     put_header(out, pos, 5, count);
     let mut end = pos + 9;
-    let mut i: usize = 0;
-    while i < count {
-        let name = wide(places[top + i]);
+    for i in 0..count {
+        let name = places[top + i] as usize;
         end = write_member(
             text,
             name,
@@ -185,7 +179,6 @@ fn write_object(
             out,
             end,
         );
-        i += 1;
     }
     Spot {
         at: all.end,

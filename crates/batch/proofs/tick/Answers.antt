@@ -26,9 +26,3 @@ pub returns : goal.returns
 returns c =
     ticks c.args.w.now (lent_all c.args.s.now c.args.out.now c.args.reports.now)
     _ _ _ _ c.count-lines.ensures c.requires.1.1 c.digits-views.ensures.1 c.tick.ensures
-
-pub count-lines-requires : goal.count-lines-requires
-count-lines-requires c = c.requires.0.sized.header
-
-pub tick-requires : goal.tick-requires
-tick-requires c = c.requires.0

@@ -6,7 +6,8 @@ use Rattle.depth_exports.proofs.Laws.{is-sound, is-unsound, tells-set, tells-sam
 use Rattle.depth_exports.proofs.depth_set.Goals as goal
 
 pub returns-then-not-sound : goal.returns-then-not-sound
-returns-then-not-sound c = (sym (set-unsound _ _ _ _ (is-unsound _ _ c.sound.ensures c.if-not-sound.true)), λ z. refl)
+returns-then-not-sound c =
+    rw (c.refused.ensures.code, c.refused.ensures.number) (sym (set-unsound _ _ _ _ (is-unsound _ _ c.sound.ensures c.if-not-sound.true)), λ z. refl)
 
 pub set-answer-requires : goal.set-answer-requires
 set-answer-requires c = sound-bids _ (is-sound _ _ c.sound.ensures c.if-not-sound.false)

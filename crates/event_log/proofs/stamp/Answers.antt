@@ -2,6 +2,6 @@ use mathlib.Core.Path.{refl}
 use Rattle.event_log.specs.Log.{log_of}
 use Rattle.event_log.proofs.stamp.Goals as goal
 
-pub returns : goal.returns
+pub returns-clause-by_index : goal.returns-clause-by_index
 unfolding log_of
-returns c = record { by_index = (λ g w. refl); base_value = (refl, (refl, refl)) }
+returns-clause-by_index c g w = refl

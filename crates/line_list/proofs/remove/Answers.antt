@@ -9,10 +9,10 @@ find-i-requires c = lined-sound _ c.requires
 pub take_out-requires : goal.take_out-requires
 take_out-requires c = record { lined = lined-sound _ c.requires; here = omega arith }
 
-pub returns-then-i-n : goal.returns-then-i-n
-returns-then-i-n c =
+pub returns-then-i-count : goal.returns-then-i-count
+returns-then-i-count c =
     removed _ c.requires _ c.args.conn c.find-i.ensures _ c.take_out.ensures
 
-pub returns-else-i-n : goal.returns-else-i-n
-returns-else-i-n c =
+pub returns-else-i-count : goal.returns-else-i-count
+returns-else-i-count c =
     none-removed _ c.requires _ c.args.conn c.find-i.ensures (omega arith)

@@ -10,20 +10,10 @@ returns-then-delivered-applied c =
 pub line_at-requires : goal.line_at-requires
 line_at-requires c = (fits-sound c.args.s.now c.requires.roomy.0.sound c.args.i c.requires.roomy.1.0).at
 
-pub put_print-requires : goal.put_print-requires
-put_print-requires c =
-    record { roomy = (c.requires.roomy.0, (omega (arith, c.if-delivered-applied.false), c.requires.roomy.1.1.1)); key_found = c.requires.key_found }
-
 pub returns-then-in_line : goal.returns-then-in_line
 returns-then-in_line c =
     counted-put c.args.i c.args.conn c.args.key c.args.message c.args.delivered c.args.applied c.requires.roomy.1.0 c.line_at.ensures c.in_line.ensures (omega (arith, c.if-delivered-applied.false)) c.if-in_line.true c.put_print.ensures
 
-pub hold-requires : goal.hold-requires
-hold-requires c = (c.requires.roomy.0.sound, (c.requires.roomy.1.0, c.requires.roomy.1.1.0))
-
 pub returns : goal.returns
 returns c =
     counted-held c.args.i c.args.conn c.args.key c.args.message c.args.delivered c.args.applied c.requires.roomy.1.0 c.line_at.ensures c.in_line.ensures (omega (arith, c.if-delivered-applied.false)) c.requires.roomy.1.1.0 c.if-in_line.false (c.hold.ensures c.args.out.now)
-
-pub in_line-requires : goal.in_line-requires
-in_line-requires c = tt

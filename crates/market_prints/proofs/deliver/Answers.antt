@@ -32,9 +32,6 @@ deliver-place-requires c =
     (omega (arith, c.if-delivered-ge-MAX_COUNT.false)) in
     record { tabled = (r.0, c.find-found.ensures); s_value = r.1.0; s_bound = r.1.1 }
 
-pub overflow_add-delivered : goal.overflow_add-delivered
-overflow_add-delivered c = let h = c.if-delivered-ge-MAX_COUNT.false in omega arith
-
 pub counted-requires : goal.counted-requires
 counted-requires c =
     record { roomy = counted_ready c.args.conn c.args.key c.args.message c.args.t c.requires c.no_row.ensures c.if-no_row.false c.delivered-delivered.ensures (omega (arith, c.if-delivered-ge-MAX_COUNT.false)) c.deliver-place.ensures.moved; key_found = c.deliver-place.ensures.key_found }

@@ -24,20 +24,20 @@ released-n-requires c =
     complete-ready c.args.t c.requires.0 c.requires.1 c.line_at-line.result c.line_at-line.ensures c.complete.result c.complete.ensures
     c.set_line.ensures
 
-pub returns-then-n-eq0 : goal.returns-then-n-eq0
-returns-then-n-eq0 c =
+pub returns-else-n-ne0 : goal.returns-else-n-ne0
+returns-else-n-ne0 c =
     complete-none c.args.t c.requires.0 c.requires.1 c.line_at-line.result c.line_at-line.ensures c.complete.result c.complete.ensures
     c.set_line.ensures
     c.items.ensures c.holds_snapshots.ensures c.if-holds_snapshots.true (c.released-n.auto.s ∙ c.set_line.auto.s) c.released-n.ensures
-    c.if-n-eq0.true
+    c.if-n-ne0.false
 
-pub returns-then-holds_snapshots : goal.returns-then-holds_snapshots
-returns-then-holds_snapshots c =
+pub returns-then-n-ne0 : goal.returns-then-n-ne0
+returns-then-n-ne0 c =
     complete-some c.args.t c.requires.0 c.requires.1 c.line_at-line.result c.line_at-line.ensures c.complete.result c.complete.ensures
     c.set_line.ensures
-    c.items.ensures c.holds_snapshots.ensures c.if-holds_snapshots.true (c.released-n.auto.s ∙ c.set_line.auto.s) c.released-n.ensures c.if-n-eq0.false
+    c.items.ensures c.holds_snapshots.ensures c.if-holds_snapshots.true (c.released-n.auto.s ∙ c.set_line.auto.s) c.released-n.ensures c.if-n-ne0.true
 
-pub returns : goal.returns
-returns c =
+pub returns-else-holds_snapshots : goal.returns-else-holds_snapshots
+returns-else-holds_snapshots c =
     uncomplete c.args.t c.requires.0 c.requires.1 c.line_at-line.result c.line_at-line.ensures c.items.ensures c.holds_snapshots.ensures
     c.if-holds_snapshots.false

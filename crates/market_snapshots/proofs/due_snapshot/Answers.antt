@@ -1,6 +1,5 @@
 use mathlib.Core.Path.{◌∙◌}
 use Rattle.market_snapshots.proofs.SnapshotLaws.{line_at}
-use Rattle.market.proofs.AnswerLaws.{room-one}
 use Rattle.market_snapshots.proofs.DueLaws.{due-ready, due-done}
 use Rattle.market_snapshots.proofs.due_snapshot.Goals as goal
 
@@ -12,16 +11,12 @@ pub set_line-requires : goal.set_line-requires
 set_line-requires c =
     line_at c.requires.0.sound c.requires.1.here
 
-pub put_snapshot-n-requires : goal.put_snapshot-n-requires
-put_snapshot-n-requires c =
-    (c.set_line.ensures.sized, room-one c.requires.0)
-
-pub align_pending-m-requires : goal.align_pending-m-requires
-align_pending-m-requires c =
+pub align_pending-requires : goal.align_pending-requires
+align_pending-requires c =
     due-ready c.args.message c.args.t c.requires.0 c.requires.1 c.set_line.ensures c.put_snapshot-n.ensures c.conn_at-conn.ensures
     c.put_snapshot-n.auto.out
 
 pub returns : goal.returns
 returns c =
     due-done c.args.message c.args.t c.requires.0 c.requires.1 c.set_line.ensures c.put_snapshot-n.ensures c.conn_at-conn.ensures
-    (c.align_pending-m.auto.s ∙ c.put_snapshot-n.auto.s ∙ c.set_line.auto.s) c.align_pending-m.ensures
+    (c.align_pending.auto.s ∙ c.put_snapshot-n.auto.s ∙ c.set_line.auto.s) c.align_pending.ensures

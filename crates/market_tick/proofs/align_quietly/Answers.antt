@@ -2,15 +2,11 @@ use Rattle.rules.specs.Tick.{quiet_line_up}
 use Rattle.rules.specs.Lines.{conn_at, items_of}
 use Rattle.store.specs.Store.{market_of}
 use Rattle.store.proofs.ConnLaws.{fits-sound}
-use Rattle.market_tick.proofs.TurnLaws.{does-more, pends-unfailed, aligned-done}
+use Rattle.market_tick.proofs.TurnLaws.{does-more, aligned-done}
 use Rattle.market_tick.proofs.align_quietly.Goals as goal
 
 pub conn_at-conn-requires : goal.conn_at-conn-requires
 conn_at-conn-requires c = let r = c.requires.0 in (fits-sound _ r.ready.sound _ r.here).at
-
-pub quiet_line_up-n-requires : goal.quiet_line_up-n-requires
-quiet_line_up-n-requires c =
-    (c.requires.0.ready, (c.requires.0.here, pends-unfailed c.args.s.now c.args.i c.requires.1))
 
 pub aligned-requires : goal.aligned-requires
 aligned-requires c = (

@@ -3,6 +3,3 @@ use Rattle.owned.proofs.owned_any_in_line.Goals as goal
 
 pub any_in_line-requires : goal.any_in_line-requires
 any_in_line-requires c = lined-sound _ c.requires
-
-pub returns : goal.returns
-returns c = c.any_in_line.ensures

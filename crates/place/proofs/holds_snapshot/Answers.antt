@@ -1,41 +1,20 @@
 -- No snapshot stands before i.
-use mathlib.Core.Path.{refl, sym, ap, ◌∙◌}
-use Prim.Native.Nat.{◌-◌}
+use mathlib.Core.Path.{sym, ap, ◌∙◌}
 use native.Mathlib.Omega.{arith}
 use Rattle.rules.specs.Lines.{is_snapshot}
 use Rattle.place.proofs.Items.{event-in, snapshot-in}
 use Rattle.place.proofs.Next.{item-here, item-over, item-end}
 use Rattle.place.proofs.holds_snapshot.Goals as goal
 
-pub loop-i-init : goal.loop-i-init
-loop-i-init c = (omega arith, refl)
-
 pub returns-then-items-i-ne-EVENT : goal.returns-then-items-i-ne-EVENT
 returns-then-items-i-ne-EVENT c =
     let l = c.loop-i in
-    let w = c.args.items.now in
-    item-here is_snapshot _ _ l.i (omega arith) (ap is_snapshot (snapshot-in w l.i c.if-items-i-ne-EVENT.true)) ∙ sym l.invariant.1
+    item-here is_snapshot _ _ l.i (omega arith) (ap is_snapshot (snapshot-in c.args.items.now l.i c.if-items-i-ne-EVENT.true)) ∙ sym l.invariant
 
 pub loop-i-preserved : goal.loop-i-preserved
 loop-i-preserved c =
     let l = c.loop-i in
-    let w = c.args.items.now in
-    (omega arith, l.invariant.1 ∙ item-over is_snapshot _ _ l.i (omega arith) (ap is_snapshot (event-in w l.i c.if-items-i-ne-EVENT.false)))
+    l.invariant ∙ item-over is_snapshot _ _ l.i (omega arith) (ap is_snapshot (event-in c.args.items.now l.i c.if-items-i-ne-EVENT.false))
 
 pub returns : goal.returns
-returns c = item-end is_snapshot _ _ _ c.loop-i-test.false ∙ sym c.loop-i.invariant.1
-
-pub overflow_mul-i : goal.overflow_mul-i
-overflow_mul-i c = omega arith
-
-pub offset_bounds-items-i : goal.offset_bounds-items-i
-offset_bounds-items-i c = omega arith
-
-pub bounds-items-i : goal.bounds-items-i
-bounds-items-i c = omega arith
-
-pub overflow_add-i : goal.overflow_add-i
-overflow_add-i c = omega arith
-
-pub loop-i-smaller : goal.loop-i-smaller
-loop-i-smaller c = omega arith
+returns c = item-end is_snapshot _ _ _ (omega arith) ∙ sym c.loop-i.invariant

@@ -1,6 +1,5 @@
 -- No snapshot stands before i.
-use mathlib.Core.Path.{◌≡◌, ap}
-use Prim.Native.Nat.{◌-◌, ◌≤◌}
+use mathlib.Core.Path.{◌≡◌}
 use lib.ListN.{drop}
 use Rattle.rules.specs.Lists.{any}
 use Rattle.rules.specs.Lines.{is_snapshot}
@@ -8,7 +7,4 @@ use Rattle.place.specs.Items.{items_in}
 use Rattle.place.proofs.holds_snapshot.Given as goal
 
 abbrev pub invariant-loop-i : goal.invariant-loop-i
-invariant-loop-i l = (l.i ≤ l.held) × (any is_snapshot (items_in l.held l.items) ≡ any is_snapshot (drop l.i (items_in l.held l.items)))
-
-abbrev pub decreases-loop-i : goal.decreases-loop-i
-decreases-loop-i l = l.held - l.i
+invariant-loop-i l = any is_snapshot (items_in l.held l.items) ≡ any is_snapshot (drop l.i (items_in l.held l.items))

@@ -1,4 +1,3 @@
-use Prim.Native.Nat.{◌-◌}
 use Rattle.rows.specs.Rows.{row_in, LooksFrom}
 use Rattle.rows.proofs.first_below.Given as goal
 

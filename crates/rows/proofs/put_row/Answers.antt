@@ -3,4 +3,4 @@ use Rattle.rows.proofs.Moves.{put_whole}
 use Rattle.rows.proofs.put_row.Goals as goal
 
 pub returns : goal.returns
-returns c = put_whole _ _ _ _ _ _ _ (omega arith) c.put4.ensures
+returns c = put_whole _ _ _ _ _ _ _ (omega arith) c.copy_from_slice.ensures.after

@@ -5,9 +5,6 @@ use Rattle.rows.proofs.Tests.{no_both}
 use Rattle.words.proofs.Cases.{says}
 use Rattle.rows.proofs.rises.Goals as goal
 
-pub returns-then-i-eq0 : goal.returns-then-i-eq0
-returns-then-i-eq0 c = λ h. absurd (omega arith)
-
 pub returns : goal.returns
 unfolding row_at
 returns c = says _ _ (λ e h. sym c.less.ensures ∙ e) (λ e p. no_both (p (omega arith)) (sym c.less.ensures ∙ e))

@@ -4,6 +4,3 @@ use Rattle.rows.proofs.shift.Given as goal
 
 abbrev pub invariant-loop-j : goal.invariant-loop-j
 invariant-loop-j l = (l.i ≤ l.j) × Raised l.initial.t l.t l.j l.n l.d
-
-abbrev pub decreases-loop-j : goal.decreases-loop-j
-decreases-loop-j l = l.j

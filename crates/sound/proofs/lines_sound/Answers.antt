@@ -3,15 +3,7 @@ use borrow.Author.Count.{below_more}
 use Rattle.words.proofs.Cases.{says-yes, says-no}
 use Rattle.store.proofs.MarketLaws.{log-ends}
 use Rattle.sound.proofs.LineLaws.{each-sound, sound-each}
-use Prim.Native.Nat.{◌-◌}
 use Rattle.sound.proofs.lines_sound.Goals as goal
-
-pub loop-i-init : goal.loop-i-init
-loop-i-init c = (omega arith, λ k l. absurd (omega arith))
-
-pub line_sound-requires : goal.line_sound-requires
-line_sound-requires c =
-    record { lined = record { sized = c.requires.0; count = c.requires.1.lines }; here = omega arith }
 
 pub returns-then-not-line_sound : goal.returns-then-not-line_sound
 returns-then-not-line_sound c =
@@ -19,9 +11,9 @@ returns-then-not-line_sound c =
     λ h. says-no _ c.line_sound.ensures (c.if-not-line_sound.true) (sound-each w _ (omega (arith, log-ends w)) h c.loop-i.i (omega arith))
 
 pub loop-i-preserved : goal.loop-i-preserved
-loop-i-preserved c = (omega arith, below_more _ _ c.loop-i.invariant.1 (says-yes _ c.line_sound.ensures (c.if-not-line_sound.false)))
+loop-i-preserved c = below_more _ _ c.loop-i.invariant (says-yes _ c.line_sound.ensures (c.if-not-line_sound.false))
 
 pub returns : goal.returns
 returns c =
     let w = c.args.s.now in
-    each-sound w _ (omega (arith, log-ends w)) (λ i l. c.loop-i.invariant.1 i (omega arith))
+    each-sound w _ (omega (arith, log-ends w)) (λ i l. c.loop-i.invariant i (omega arith))

@@ -1,4 +1,5 @@
-use mathlib.Core.Path.{refl, sym, ◌∙◌}
+use mathlib.Core.Path.{refl}
+use Rattle.std.proofs.lemmas.Result.{err_from_is_err_and}
 use Rattle.rules.specs.Calls.{promote}
 use Rattle.rules.specs.Refusals.{Promote, step}
 use Rattle.store.specs.Store.{market_of}
@@ -6,20 +7,20 @@ use Rattle.steps.specs.Steps.{records}
 use Rattle.steps.proofs.StepLaws.{roomy, steps-short, steps-roomy}
 use Rattle.steps.proofs.promote.Goals as goal
 
-pub returns-then-short : goal.returns-then-short
+pub returns-in_err-room : goal.returns-in_err-room
 unfolding step
-returns-then-short c =
+returns-in_err-room c =
     let a = c.args in
-    steps-short (Promote a.t (records a.out.now)) a.s.now a.out.now (promote a.t (market_of a.s.now)) refl (sym c.short.ensures ∙ c.if-short.true)
+    let m = market_of a.s.now in
+    let p = err_from_is_err_and c.from_residual.result c.from_residual.ensures.1 in
+    rw (p.1, p.2, c.in_err-room.ensures.0) (steps-short (Promote a.t (records a.out.now)) a.s.now a.out.now (promote a.t m) refl c.in_err-room.ensures.1)
 
 pub promote-requires : goal.promote-requires
-promote-requires c = roomy _ _ c.requires (sym c.short.ensures ∙ c.if-short.false)
+promote-requires c = roomy _ _ c.requires c.in_ok-room.ensures
 
 pub returns : goal.returns
 unfolding step
 returns c =
     let a = c.args in
-    steps-roomy (Promote a.t (records a.out.now)) a.s.now a.out.now (promote a.t (market_of a.s.now)) refl _ _ (sym c.short.ensures ∙ c.if-short.false) c.promote.ensures
-
-pub short-requires : goal.short-requires
-short-requires c = c.requires
+    let m = market_of a.s.now in
+    steps-roomy (Promote a.t (records a.out.now)) a.s.now a.out.now (promote a.t m) refl _ _ c.in_ok-room.ensures c.promote.ensures

@@ -4,6 +4,3 @@ use Rattle.steps.proofs.reset.Goals as goal
 pub returns : goal.returns
 unfolding step
 returns c = c.reset.ensures
-
-pub reset-requires : goal.reset-requires
-reset-requires c = c.requires

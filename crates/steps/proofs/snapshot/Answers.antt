@@ -1,4 +1,4 @@
-use mathlib.Core.Path.{sym, ◌∙◌}
+use Rattle.std.proofs.lemmas.Result.{err_from_is_err_and}
 use native.Mathlib.Omega.{arith}
 use Rattle.rules.specs.Lines.{line_of, line_for}
 use Rattle.rules.specs.Calls.{snapshot}
@@ -11,18 +11,18 @@ use Rattle.steps.proofs.snapshot.Goals as goal
 pub returns-then-token-gt1 : goal.returns-then-token-gt1
 returns-then-token-gt1 c = let a = c.args in token-bad a.conn a.token a.message a.t a.s.now a.out.now c.if-token-gt1.true
 
-pub returns-then-short : goal.returns-then-short
-returns-then-short c =
+pub returns-in_err-room : goal.returns-in_err-room
+returns-in_err-room c =
     let a = c.args in
-    steps-short (Snapshot a.conn a.token a.message a.t (records a.out.now)) a.s.now a.out.now (snapshot (line_of a.conn (market_of a.s.now)) a.token a.message a.t (market_of a.s.now) (line_for a.conn (market_of a.s.now))) (token-good a.conn a.token a.message a.t a.s.now a.out.now (omega arith)) (sym c.short.ensures ∙ c.if-short.true)
+    let m = market_of a.s.now in
+    let p = err_from_is_err_and c.from_residual.result c.from_residual.ensures.1 in
+    rw (p.1, p.2, c.in_err-room.ensures.0) (steps-short (Snapshot a.conn a.token a.message a.t (records a.out.now)) a.s.now a.out.now (snapshot (line_of a.conn m) a.token a.message a.t m (line_for a.conn m)) (token-good a.conn a.token a.message a.t a.s.now a.out.now (omega arith)) c.in_err-room.ensures.1)
 
 pub snapshot-requires : goal.snapshot-requires
-snapshot-requires c = (roomy _ _ c.requires (sym c.short.ensures ∙ c.if-short.false), omega arith)
+snapshot-requires c = (roomy _ _ c.requires c.in_ok-room.ensures, omega arith)
 
 pub returns : goal.returns
 returns c =
     let a = c.args in
-    steps-roomy (Snapshot a.conn a.token a.message a.t (records a.out.now)) a.s.now a.out.now (snapshot (line_of a.conn (market_of a.s.now)) a.token a.message a.t (market_of a.s.now) (line_for a.conn (market_of a.s.now))) (token-good a.conn a.token a.message a.t a.s.now a.out.now (omega arith)) _ _ (sym c.short.ensures ∙ c.if-short.false) c.snapshot.ensures
-
-pub short-requires : goal.short-requires
-short-requires c = c.requires
+    let m = market_of a.s.now in
+    steps-roomy (Snapshot a.conn a.token a.message a.t (records a.out.now)) a.s.now a.out.now (snapshot (line_of a.conn m) a.token a.message a.t m (line_for a.conn m)) (token-good a.conn a.token a.message a.t a.s.now a.out.now (omega arith)) _ _ c.in_ok-room.ensures c.snapshot.ensures

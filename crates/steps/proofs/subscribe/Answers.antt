@@ -4,6 +4,3 @@ use Rattle.steps.proofs.subscribe.Goals as goal
 pub returns : goal.returns
 unfolding step
 returns c = c.subscribe.ensures
-
-pub subscribe-requires : goal.subscribe-requires
-subscribe-requires c = c.requires

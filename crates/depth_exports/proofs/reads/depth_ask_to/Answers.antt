@@ -5,7 +5,8 @@ use Rattle.depth_exports.proofs.Laws.{is-sound, is-unsound, not-refused}
 use Rattle.depth_exports.proofs.reads.depth_ask_to.Goals as goal
 
 pub returns-then-not-sound : goal.returns-then-not-sound
-returns-then-not-sound c = (sym (asks_to-unsound _ _ (is-unsound _ _ c.sound.ensures c.if-not-sound.true)), λ z. refl)
+returns-then-not-sound c =
+    rw (c.refused.ensures.code, c.refused.ensures.number) (sym (asks_to-unsound _ _ (is-unsound _ _ c.sound.ensures c.if-not-sound.true)), λ z. refl)
 
 pub ask_depth_to-requires : goal.ask_depth_to-requires
 ask_depth_to-requires c = sound-asks _ (is-sound _ _ c.sound.ensures c.if-not-sound.false)

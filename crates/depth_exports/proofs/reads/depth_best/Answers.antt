@@ -6,7 +6,8 @@ use Rattle.depth_exports.proofs.Laws.{is-sound, is-unsound, bids-lie, asks-lie, 
 use Rattle.depth_exports.proofs.reads.depth_best.Goals as goal
 
 pub returns-then-not-sound : goal.returns-then-not-sound
-returns-then-not-sound c = (sym (best-unsound _ _ (is-unsound _ _ c.sound.ensures c.if-not-sound.true)), λ z. refl, λ z. refl, not-refused refl, not-refused refl)
+returns-then-not-sound c =
+    rw (c.refused.ensures.code, c.refused.ensures.number) (sym (best-unsound _ _ (is-unsound _ _ c.sound.ensures c.if-not-sound.true)), λ z. refl, λ z. refl, not-refused refl, not-refused refl)
 
 pub last-requires : goal.last-requires
 last-requires c =

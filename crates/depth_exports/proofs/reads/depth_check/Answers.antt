@@ -6,4 +6,5 @@ pub returns-then-sound : goal.returns-then-sound
 returns-then-sound c = sym (whole-done _ (sym c.sound.ensures ∙ c.if-sound.true))
 
 pub returns-else-sound : goal.returns-else-sound
-returns-else-sound c = sym (whole-unsound _ (sym c.sound.ensures ∙ c.if-sound.false))
+returns-else-sound c =
+    rw (c.refused.ensures.code, c.refused.ensures.number) (sym (whole-unsound _ (sym c.sound.ensures ∙ c.if-sound.false)))

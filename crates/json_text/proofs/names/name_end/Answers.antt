@@ -15,21 +15,21 @@ pub string_end-requires : goal.string_end-requires
 string_end-requires c =
     (place-behind c.args.text.now _ _ c.byte.ensures (search rules), search rules)
 
-pub returns-in_default : goal.returns-in_default
-returns-in_default c =
+pub returns-in_err-end : goal.returns-in_err-end
+returns-in_err-end c =
     let t = c.args.text.now in
-    let n = ends-nowhere-reads t _ _ _ c.string_end.ensures c.in_default.is in
-    ends_nowhere t _ (name-no-string t _ _ c.byte.ensures c.if-byte-ne34.false n)
+    let n = ends-nowhere-reads t _ _ _ c.string_end.ensures c.in_err-end.was in
+    rw c.from_residual.ensures (ends_nowhere t _ (name-no-string t _ _ c.byte.ensures c.if-byte-ne34.false n))
 
 pub skip_ws-requires : goal.skip_ws-requires
 skip_ws-requires c =
     let t = c.args.text.now in
-    (ends-at-beyond t _ _ _ c.string_end.ensures _ c.in-At.is).1
+    (ends-at-beyond t _ _ _ c.string_end.ensures _ c.in_ok-end.was).1
 
 pub returns : goal.returns
 returns c =
     let t = c.args.text.now in
-    let q = ends-at-beyond t _ _ _ c.string_end.ensures _ c.in-At.is in
-    let r = ends-at-reads t _ _ _ c.string_end.ensures _ c.in-At.is in
-    let m = name-colon t _ _ c.byte.ensures c.in-At.end c.if-byte-ne34.false r ∙ ap colon_rest (sym c.skip_ws.ensures.0) in
+    let q = ends-at-beyond t _ _ _ c.string_end.ensures _ c.in_ok-end.was in
+    let r = ends-at-reads t _ _ _ c.string_end.ensures _ c.in_ok-end.was in
+    let m = name-colon t _ _ c.byte.ensures c.in_ok-end.end c.if-byte-ne34.false r ∙ ap colon_rest (sym c.skip_ws.ensures.0) in
     ends_as t _ _ _ _ _ (search rules) m c.colon_end.ensures

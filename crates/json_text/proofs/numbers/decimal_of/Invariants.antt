@@ -1,5 +1,5 @@
 use mathlib.Core.Path.{◌≡◌}
-use Prim.Native.Nat.{◌-◌, ◌≤◌, ◌<◌, ◌^◌}
+use Prim.Native.Nat.{◌-◌, ◌<◌, ◌^◌}
 use lib.ListN.{take, drop}
 use Rattle.json_text.specs.Work.{decimal_of}
 use Rattle.json_text.proofs.DecimalLaws.{decimal_from}
@@ -7,9 +7,4 @@ use Rattle.json_text.proofs.numbers.decimal_of.Given as goal
 
 -- what is still to be read, behind n, writes what the whole does
 abbrev pub invariant-loop-i : goal.invariant-loop-i
-invariant-loop-i l = (decimal_of (take (l.to - l.from) (drop l.from l.text)) ≡ decimal_from l.n (take (l.to - l.i) (drop l.i l.text)))
-    × (l.i ≤ l.to)
-    × (l.n < 2 ^ 64)
-
-abbrev pub decreases-loop-i : goal.decreases-loop-i
-decreases-loop-i l = l.to - l.i
+invariant-loop-i l = (decimal_of (take (l.to - l.from) (drop l.from l.text)) ≡ decimal_from l.n (take (l.to - l.i) (drop l.i l.text))) × (l.n < 2 ^ 64)

@@ -1,6 +1,6 @@
+use Rattle.std.specs.Prelude.{Some}
 use borrow.Author.Rules.{rules}
 use mathlib.Core.Path.{sym, ◌∙◌, ap}
-use mathlib.Core.Option.{some}
 use native.Mathlib.Omega.{arith}
 use Rattle.json_text.proofs.Tests.{within-high}
 use Rattle.json_text.proofs.EndLaws.{ends_at, ends_nowhere}
@@ -26,7 +26,7 @@ returns-then-within c =
     let t = c.args.text.now in
     let k = sym c.within.ensures ∙ c.if-within.true in
     let p = int-more t _ _ c.byte-b.ensures c.if-b-eq48.false k in
-    ends_at t _ _ (p ∙ ap some (sym c.digits_end.ensures.0)) (search rules) (search rules)
+    ends_at t _ _ (p ∙ ap Some (sym c.digits_end.ensures.0)) (search rules) (search rules)
 
 pub returns-else-within : goal.returns-else-within
 returns-else-within c =

@@ -1,12 +1,10 @@
 use borrow.Author.Rules.{rules}
-use mathlib.Core.Path.{◌≡◌, refl, sym, ◌∙◌}
-use Prim.Native.Nat.{◌+◌, ◌≤◌}
+use mathlib.Core.Path.{refl, sym, ◌∙◌}
 use native.Mathlib.Omega.{arith}
-use lib.ListN.{length, drop}
 use Rattle.json_text.specs.Bytes.{plain}
-use Rattle.json_text.specs.Work.{char_len}
-use Rattle.json_text.proofs.Lengths.{char-plain, char-special}
-use Rattle.json_text.proofs.StringSteps.{chars-over, chars-closed, chars-stuck, chars-on, char-inside}
+use Rattle.json_text.proofs.EndLaws.{ends_nowhere}
+use Rattle.json_text.proofs.Lengths.{char-plain}
+use Rattle.json_text.proofs.StringSteps.{chars-over, chars-closed, chars-stuck, chars-on, special-step}
 use Rattle.json_text.proofs.Tests.{test_of}
 use Rattle.json_text.proofs.strings.string_end.Goals as goal
 
@@ -21,45 +19,27 @@ loop-i-preserved-then-plain c =
     let n = char-plain t i (test_of plain c.plain.ensures c.byte.ensures c.if-plain.true) in
     (c.loop-i.invariant.0 ∙ chars-on t i c.loop-i-test.true (λ e. omega arith) n (λ z. omega arith), search rules, search rules)
 
-pub returns-then-n-eq0 : goal.returns-then-n-eq0
-returns-then-n-eq0 c =
-    let s = chars-stuck _ _ c.loop-i-test.true (λ e. omega arith) ((let special_is : (let t = c.args.text.now in (c.special_len-n.result ≡ char_len (drop c.loop-i.i t)) × (c.loop-i.i + c.special_len-n.result ≤ length t)) = let t = c.args.text.now in
+pub returns-in_err-i : goal.returns-in_err-i
+returns-in_err-i c =
+    let t = c.args.text.now in
     let i = c.loop-i.i in
-    let n = c.special_len-n.ensures ∙ char-special t i (test_of plain c.plain.ensures c.byte.ensures c.if-plain.false) in
-    (n, char-inside t i c.loop-i-test.true n) in special_is)).0 (omega arith) in
-    record { rest = sym (c.loop-i.invariant.0 ∙ s); beyond = tt }
+    let n = special-step t i c.loop-i-test.true 0 (test_of plain c.plain.ensures c.byte.ensures c.if-plain.false) c.in_err-i.ensures in
+    let s = chars-stuck t i c.loop-i-test.true (λ e. omega arith) n.0 refl in
+    rw c.from_residual.ensures (ends_nowhere t _ (c.loop-i.invariant.0 ∙ s))
 
 pub overflow_add-i-else-plain : goal.overflow_add-i-else-plain
-overflow_add-i-else-plain c = omega (
-  arith,
-  ((let special_is : (let t = c.args.text.now in (c.special_len-n.result ≡ char_len (drop c.loop-i.i t)) × (c.loop-i.i + c.special_len-n.result ≤ length t)) = let t = c.args.text.now in
-      let i = c.loop-i.i in
-      let n = c.special_len-n.ensures ∙ char-special t i (test_of plain c.plain.ensures c.byte.ensures c.if-plain.false) in
-      (n, char-inside t i c.loop-i-test.true n) in special_is)).1,
-)
-
-pub loop-i-smaller : goal.loop-i-smaller
-loop-i-smaller c = omega (
-  arith,
-  ((let special_is : (let t = c.args.text.now in (c.special_len-n.result ≡ char_len (drop c.loop-i.i t)) × (c.loop-i.i + c.special_len-n.result ≤ length t)) = let t = c.args.text.now in
-      let i = c.loop-i.i in
-      let n = c.special_len-n.ensures ∙ char-special t i (test_of plain c.plain.ensures c.byte.ensures c.if-plain.false) in
-      (n, char-inside t i c.loop-i-test.true n) in special_is)).1,
-)
+overflow_add-i-else-plain c =
+    let t = c.args.text.now in
+    let n = special-step t c.loop-i.i c.loop-i-test.true _ (test_of plain c.plain.ensures c.byte.ensures c.if-plain.false) c.in_ok-i.ensures.0 in
+    omega (arith, n.1)
 
 pub loop-i-preserved : goal.loop-i-preserved
 loop-i-preserved c =
-    let s = chars-on _ _ c.loop-i-test.true (λ e. omega arith) ((let special_is : (let t = c.args.text.now in (c.special_len-n.result ≡ char_len (drop c.loop-i.i t)) × (c.loop-i.i + c.special_len-n.result ≤ length t)) = let t = c.args.text.now in
+    let t = c.args.text.now in
     let i = c.loop-i.i in
-    let n = c.special_len-n.ensures ∙ char-special t i (test_of plain c.plain.ensures c.byte.ensures c.if-plain.false) in
-    (n, char-inside t i c.loop-i-test.true n) in special_is)).0 (λ z. omega arith) in (
-      c.loop-i.invariant.0 ∙ s,
-      search rules,
-      ((let special_is : (let t = c.args.text.now in (c.special_len-n.result ≡ char_len (drop c.loop-i.i t)) × (c.loop-i.i + c.special_len-n.result ≤ length t)) = let t = c.args.text.now in
-          let i = c.loop-i.i in
-          let n = c.special_len-n.ensures ∙ char-special t i (test_of plain c.plain.ensures c.byte.ensures c.if-plain.false) in
-          (n, char-inside t i c.loop-i-test.true n) in special_is)).1,
-    )
+    let n = special-step t i c.loop-i-test.true _ (test_of plain c.plain.ensures c.byte.ensures c.if-plain.false) c.in_ok-i.ensures.0 in
+    let s = chars-on t i c.loop-i-test.true (λ e. omega arith) n.0 (λ z. omega (arith, c.in_ok-i.ensures)) in
+    (c.loop-i.invariant.0 ∙ s, search rules, n.1)
 
 pub returns : goal.returns
 returns c =

@@ -1,4 +1,4 @@
-use Rattle.std.proofs.Common.{ℕ, ◌^◌, ◌<◌, subst, arith}
+use Rattle.std.proofs.Common.{ℕ, ◌-◌, ◌^◌, ◌<◌, subst, arith}
 use Rattle.keys.proofs.Bytes.{Taken, taken_none, taken_more, taken-below}
 use Rattle.keys.proofs.load.load_rest.Goals as goal
 
@@ -23,8 +23,8 @@ pub loop-k-preserved : goal.loop-k-preserved
 loop-k-preserved c =
     let l = c.loop-k in
     let s = c.args.s.now in
-    let b = c.wide in
-    (omega arith, taken_more s l.k l.w b.result l.invariant.1 (omega arith) b.ensures.0 b.ensures.1)
+    let small : c.from.result < 256 = omega (arith, c.type_inv.s (l.k - 1), c.from.ensures) in
+    (omega arith, taken_more s l.k l.w c.from.result l.invariant.1 (omega arith) c.from.ensures small)
 
 pub returns : goal.returns
 returns c =
@@ -32,12 +32,3 @@ returns c =
     let l = c.loop-k in
     let t : Taken a.s.now a.at l.w = subst (λ (k : ℕ). Taken a.s.now k l.w) (omega arith) l.invariant.1 in
     (t.is, taken-below a.s.now a.at l.w 7 t (omega arith))
-
-pub overflow_sub-k : goal.overflow_sub-k
-overflow_sub-k c = omega arith
-
-pub wide-requires : goal.wide-requires
-wide-requires c = omega arith
-
-pub loop-k-smaller : goal.loop-k-smaller
-loop-k-smaller c = omega arith

@@ -4,6 +4,3 @@ use Rattle.keys.proofs.load.load_rest.Given as goal
 
 abbrev pub invariant-loop-k : goal.invariant-loop-k
 invariant-loop-k l = (l.at ≤ l.k) × Taken l.s l.k l.w
-
-abbrev pub decreases-loop-k : goal.decreases-loop-k
-decreases-loop-k l = l.k

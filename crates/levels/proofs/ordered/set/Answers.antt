@@ -38,11 +38,6 @@ overflow_sub-result c =
       among (reached c.args.falling c.args.prices.now c.args.sizes.now c.args.count c.args.price c.place-at.result c.args.size c.standing.result c.requires (sym c.price_allowed.ensures ∙ c.if-not-price_allowed.false) (sym c.size_allowed.ensures ∙ c.if-not-size_allowed.false) c.place-at.ensures c.standing.ensures) c.if-standing.true,
     )
 
-pub put-requires : goal.put-requires
-put-requires c =
-    let r = reached c.args.falling c.args.prices.now c.args.sizes.now c.args.count c.args.price c.place-at.result c.args.size c.standing.result c.requires (sym c.price_allowed.ensures ∙ c.if-not-price_allowed.false) (sym c.size_allowed.ensures ∙ c.if-not-size_allowed.false) c.place-at.ensures c.standing.ensures in
-    omega (arith, counted r, among r c.if-standing.true)
-
 pub returns-then-size : goal.returns-then-size
 unfolding of_bits
 returns-then-size c = (
@@ -54,7 +49,7 @@ pub returns-else-size : goal.returns-else-size
 unfolding of_bits
 returns-else-size c =
     let r = reached c.args.falling c.args.prices.now c.args.sizes.now c.args.count c.args.price c.place-at.result c.args.size c.standing.result c.requires (sym c.price_allowed.ensures ∙ c.if-not-price_allowed.false) (sym c.size_allowed.ensures ∙ c.if-not-size_allowed.false) c.place-at.ensures c.standing.ensures in
-    (again r c.if-standing.true c.if-size.false (omega (arith, counted r, among r c.if-standing.true)) c.put.ensures, tt)
+    (again r c.if-standing.true c.if-size.false (omega (arith, counted r, among r c.if-standing.true)) refl, tt)
 
 pub returns-then-size-2 : goal.returns-then-size-2
 unfolding of_bits

@@ -1,18 +1,16 @@
-use mathlib.Core.Path.{◌∙◌, sym}
 use native.Mathlib.Omega.{arith}
-use Rattle.levels.proofs.Halving.{between-all, between-up, between-down, between-met}
+use lib.ListN.{take}
+use Rattle.std.proofs.Common.{rules}
+use Rattle.std.proofs.lemmas.List.Sorted.{IsPartitionPoint-from_clause}
+use Rattle.levels.specs.Depth.{better}
+use Rattle.levels.proofs.Halving.{parted, point-place}
 use Rattle.levels.proofs.search.place.Goals as goal
 
-pub loop-low-init : goal.loop-low-init
-loop-low-init c = between-all _ _ _ _
-
-pub loop-low-preserved-then-better : goal.loop-low-preserved-then-better
-loop-low-preserved-then-better c =
-    between-up _ _ _ _ c.requires.1 _ _ c.loop-low.invariant _ (omega arith) (omega arith) (sym c.better.ensures ∙ c.if-better.true)
-
-pub loop-low-preserved : goal.loop-low-preserved
-loop-low-preserved c =
-    between-down _ _ _ _ c.requires.1 _ _ c.loop-low.invariant _ (omega arith) (omega arith) (sym c.better.ensures ∙ c.if-better.false)
-
 pub returns : goal.returns
-returns c = between-met _ _ _ _ _ _ c.loop-low.invariant c.loop-low-test.false
+returns c =
+    let a = c.args in
+    let m = c.partition_point in
+    point-place a.falling a.prices.now a.count a.price (omega arith) m.result m.ensures.bound
+    (IsPartitionPoint-from_clause (λ q. better a.falling q a.price) (take a.count a.prices.now) m.result m.ensures.partitioned
+    (parted a.falling a.prices.now a.count a.price (omega arith) c.requires.1)
+    (λ x r f' k. search rules))

@@ -1,17 +1,18 @@
-use mathlib.Core.Path.{refl, sym, ◌∙◌}
+use mathlib.Core.Path.{ap, sym, ◌∙◌}
 use native.Mathlib.Omega.{arith}
-use lib.Ieee.{of_bits}
-use Rattle.levels.proofs.Totals.{up_more, none_left}
+use Rattle.std.proofs.Common.{rules}
+use lib.Ieee.{Float, of_bits, add, binary64}
+use denote.Bor.{Bor}
+use Rattle.levels.specs.Depth.{total, plus_zero}
+use Rattle.levels.proofs.Totals.{folded, sizes-cut}
 use Rattle.levels.proofs.sums.sum_up.Goals as goal
 
-pub loop-i-init : goal.loop-i-init
-unfolding of_bits
-loop-i-init c = (omega arith, refl)
-
-pub loop-i-preserved : goal.loop-i-preserved
-loop-i-preserved c =
-    (omega arith, sym (up_more c.args.sizes.now _ _ c.loop-i-test.true _) ∙ c.loop-i.invariant.1)
-
 pub returns : goal.returns
+unfolding of_bits
 returns c =
-    rw (none_left c.args.sizes.now _ _ c.loop-i-test.false) at c.loop-i.invariant.1
+    let (p, from, whole, result) = c.fold.ensures.runs in
+    let a = c.args in
+    result (λ x y. add binary64 x y.now) (search rules)
+    ∙ folded (λ (y : Bor Float). y.now) plus_zero p.items
+    ∙ ap (total plus_zero)
+    ((c.iter.ensures.runs p p.seen).4 whole ∙ ap (λ s. s.rest.now) from ∙ c.iter.ensures.rest ∙ sym (sizes-cut a.sizes.now a.from a.to c.requires.0 (omega arith)))

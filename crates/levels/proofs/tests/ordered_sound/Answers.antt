@@ -47,24 +47,21 @@ returns-then-not-stands c =
     let a = c.args in
     sym
     (few a.falling a.prices.now a.sizes.now _ c.if-count-gt512.false
-    ∙ c.loop-i.invariant.1
+    ∙ c.loop-i.invariant
     ∙ stop a.falling a.prices.now a.sizes.now _ _ _ c.loop-i-test.true c.stands.ensures (c.if-not-stands.true))
 
 pub loop-i-preserved : goal.loop-i-preserved
 loop-i-preserved c =
-    let a = c.args in (
-      omega arith,
-      c.loop-i.invariant.1
-          ∙ over a.falling a.prices.now a.sizes.now _ _ _ c.loop-i-test.true c.stands.ensures (c.if-not-stands.false),
-    )
+    let a = c.args in
+    c.loop-i.invariant ∙ over a.falling a.prices.now a.sizes.now _ _ _ c.loop-i-test.true c.stands.ensures (c.if-not-stands.false)
 
 pub returns : goal.returns
 returns c =
     let a = c.args in
     sym
     (few a.falling a.prices.now a.sizes.now _ c.if-count-gt512.false
-    ∙ c.loop-i.invariant.1
+    ∙ c.loop-i.invariant
     ∙ all a.falling a.prices.now a.sizes.now _ _ c.loop-i-test.false)
 
 pub loop-i-init : goal.loop-i-init
-loop-i-init c = (omega arith, refl)
+loop-i-init c = refl

@@ -1,5 +1,4 @@
 use mathlib.Core.Path.{◌≡◌}
-use Prim.Native.Nat.{◌-◌, ◌≤◌}
 use lib.ListN.{drop}
 use Rattle.levels.specs.Depth.{in_order}
 use Rattle.levels.specs.Work.{levels_of}
@@ -7,7 +6,4 @@ use Rattle.levels.proofs.tests.ordered_sound.Given as goal
 
 -- the side is in order where what is left of it is
 abbrev pub invariant-loop-i : goal.invariant-loop-i
-invariant-loop-i l = (l.i ≤ l.count) × (in_order l.falling (levels_of l.prices l.sizes l.count) ≡ in_order l.falling (drop l.i (levels_of l.prices l.sizes l.count)))
-
-abbrev pub decreases-loop-i : goal.decreases-loop-i
-decreases-loop-i l = l.count - l.i
+invariant-loop-i l = in_order l.falling (levels_of l.prices l.sizes l.count) ≡ in_order l.falling (drop l.i (levels_of l.prices l.sizes l.count))

@@ -4,7 +4,3 @@ use Rattle.levels.proofs.tests.size_allowed.Goals as goal
 pub returns-then-size : goal.returns-then-size
 unfolding of_bits div
 returns-then-size c = rw c.if-size.true
-
-pub returns-else-size : goal.returns-else-size
-unfolding of_bits
-returns-else-size c = rw c.if-size.false

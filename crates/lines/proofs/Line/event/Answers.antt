@@ -1,16 +1,22 @@
-use mathlib.Core.List.{[]}
 use mathlib.Core.Path.{refl}
-use Rattle.lines.proofs.Laws.{stands-failed}
+use mathlib.Core.Logic.{inl, inr}
+use Rattle.rules.specs.declared.Item.TheVariants as Item
+use Rattle.lines.proofs.Laws.{Holds, event-fails, event-held, stands-failed}
 use Rattle.lines.proofs.Line.event.Goals as goal
 
-pub returns-in-Waiting : goal.returns-in-Waiting
-returns-in-Waiting c w msg = rw c.in-Waiting.is (c.hold_waiting.ensures 0 [] _ w msg)
-
-pub returns-in-Pending : goal.returns-in-Pending
-returns-in-Pending c w msg = rw c.in-Pending.is (c.hold_pending.ensures 0 [] _ w msg)
-
 pub returns-in-InLine : goal.returns-in-InLine
-returns-in-InLine c w msg = rw c.in-InLine.is (c.advance.ensures 0 msg)
+returns-in-InLine c w msg = rw c.in-InLine.is (c.advance.ensures c.args.limit msg)
 
-pub returns-in-Failed : goal.returns-in-Failed
-returns-in-Failed c w msg = rw c.in-Failed.is (record { line = stands-failed; answer = refl })
+pub returns-then-limit-items : goal.returns-then-limit-items
+returns-then-limit-items c w msg =
+    let a = c.args in
+    let h : Holds a.self c.in-Waiting.items = elim c.in-Waiting.is [ inl p ↦ rw p.1 refl | inr q ↦ rw q.2 refl ] in
+    rw (c.stepped-then-limit-items.ensures, event-fails a.limit a.head.base _ a.key msg a.self c.in-Waiting.items w h c.if-limit-items.true)
+    (record { line = stands-failed; answer = refl })
+
+pub returns-else-limit-items : goal.returns-else-limit-items
+returns-else-limit-items c w msg =
+    let a = c.args in
+    let h : Holds a.self c.in-Waiting.items = elim c.in-Waiting.is [ inl p ↦ rw p.1 refl | inr q ↦ rw q.2 refl ] in
+    rw (c.stepped-else-limit-items.ensures, event-held a.limit a.head.base _ a.key msg a.self c.in-Waiting.items w h c.if-limit-items.false)
+    (record { line = rw c.in-Waiting.self-is at (c.more.ensures w (Item.Event a.key msg)); answer = refl })

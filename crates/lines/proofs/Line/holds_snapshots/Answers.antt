@@ -1,5 +1,5 @@
-use mathlib.Core.Path.{sym, ◌∙◌}
 use native.Mathlib.Omega.{arith}
+use mathlib.Core.Path.{sym, ◌∙◌}
 use Rattle.lines.proofs.Laws.{held-is, items-held}
 use Rattle.lines.proofs.Line.holds_snapshots.Goals as goal
 
@@ -14,6 +14,6 @@ returns-then-holds_token c =
     rw (items-held c.args.self _ c.held-n.ensures _, sym c.holds_token.ensures ∙ c.if-holds_token.true)
     c.holds_token-then-holds_token.ensures
 
-pub returns : goal.returns
-returns c =
-    rw (items-held c.args.self _ c.held-n.ensures _, sym c.holds_token.ensures ∙ c.if-holds_token.false)
+pub returns-else-holds_token : goal.returns-else-holds_token
+returns-else-holds_token c =
+    rw (items-held c.args.self _ c.held-n.ensures _, sym c.holds_token.ensures ∙ c.if-holds_token.false) c.if-holds_token.false

@@ -1,24 +1,14 @@
-use Rattle.rules.specs.Lines as Rules
-use Rattle.rules.specs.declared.Item.{Item}
-use native.Mathlib.Omega.{arith}
-use mathlib.Core.List.{List}
-use mathlib.Core.Path.{ap}
+use mathlib.Core.Path.{sym, ◌∙◌}
+use mathlib.Core.Logic.{inl, inr}
+use Rattle.place.proofs.Items.{items-length}
+use Rattle.lines.proofs.Laws.{one_more, stands-waiting, stands-pending, stands-in-line, stands-failed}
 use Rattle.lines.proofs.Line.more.Goals as goal
 
-pub overflow_add-result : goal.overflow_add-result
-overflow_add-result c = let k = rw c.in-Waiting.is at c.requires in omega arith
-
-pub overflow_add-result-in-Pending : goal.overflow_add-result-in-Pending
-overflow_add-result-in-Pending c = let k = rw c.in-Pending.is at c.requires in omega arith
-
 pub returns-in-Waiting : goal.returns-in-Waiting
-returns-in-Waiting c v w item e = rw c.in-Waiting.is (ap (λ (is : List Item). Rules.Waiting is c.in-Waiting.since) (rw c.in-Waiting.is at e))
+returns-in-Waiting c w item = rw c.in-Waiting.is (stands-waiting _ _ _ (one_more _ w item))
 
 pub returns-in-Pending : goal.returns-in-Pending
-returns-in-Pending c v w item e = rw c.in-Pending.is (ap (λ (is : List Item). Rules.Pending is c.in-Pending.snapshot c.in-Pending.since) (rw c.in-Pending.is at e))
+returns-in-Pending c w item = rw c.in-Pending.is (stands-pending _ _ _ _ (one_more _ w item))
 
 pub returns-in-InLine : goal.returns-in-InLine
-returns-in-InLine c v w item e = rw c.in-InLine.is
-
-pub returns-in-Failed : goal.returns-in-Failed
-returns-in-Failed c v w item e = rw c.in-Failed.is
+returns-in-InLine c w item = elim c.in-InLine.is [ inl p ↦ rw p.3 (stands-in-line _ _ _) | inr q ↦ rw q stands-failed ]

@@ -1,14 +1,8 @@
-use Rattle.lines.proofs.SoundLaws.{items-fit, leb-says}
+use mathlib.Core.Logic.{inl, inr}
+use Rattle.lines.proofs.SoundLaws.{items-fit}
 use Rattle.lines.proofs.area.line_sound.Goals as goal
 
 pub returns-in-Waiting : goal.returns-in-Waiting
-returns-in-Waiting c = let a = c.args in rw c.in-Waiting.is (items-fit a.h c.in-Waiting.n a.items.now c.items_sound.result c.items_sound.ensures)
-
-pub returns-in-Pending : goal.returns-in-Pending
-returns-in-Pending c = let a = c.args in rw c.in-Pending.is (items-fit a.h c.in-Pending.n a.items.now c.items_sound-in-Pending.result c.items_sound-in-Pending.ensures)
-
-pub returns-in-InLine : goal.returns-in-InLine
-returns-in-InLine c = rw c.in-InLine.is (leb-says c.in-InLine.next c.args.end)
-
-pub returns-in-Failed : goal.returns-in-Failed
-returns-in-Failed c = rw c.in-Failed.is tt
+returns-in-Waiting c =
+    let a = c.args in
+    elim c.in-Waiting.is [ inl p ↦ rw p.1 (items-fit a.h _ a.items.now _ c.items_sound.ensures) | inr q ↦ rw q.2 (items-fit a.h _ a.items.now _ c.items_sound.ensures) ]

@@ -1,22 +1,9 @@
+use mathlib.Core.Path.{refl, ◌∙◌}
+use Rattle.lines.proofs.AreaLaws.{flag-byte, stamp-words}
 use Rattle.lines.specs.Area.{line_words}
 use Rattle.lines.proofs.area.put_line.Goals as goal
+use Rattle.lines.proofs.area.put_line.Goals.{in-Waiting, in-Pending, in-InLine, in-Failed}
 
-pub returns-in-Waiting : goal.returns-in-Waiting
+pub returns : goal.returns
 unfolding line_words
-returns-in-Waiting c = rw c.in-Waiting.is c.put8.ensures
-
-pub returns-in-Never : goal.returns-in-Never
-unfolding line_words
-returns-in-Never c = rw (c.in-Pending.is, c.in-Never.is) c.put8-in-Never.ensures
-
-pub returns-in-At : goal.returns-in-At
-unfolding line_words
-returns-in-At c = rw (c.in-Pending.is, c.in-At.is) c.put8-in-At.ensures
-
-pub returns-in-InLine : goal.returns-in-InLine
-unfolding line_words
-returns-in-InLine c = rw (c.in-InLine.is, ← c.flag_of-a.ensures, ← c.flag_of-b.ensures) c.put8-in-InLine.ensures
-
-pub returns-in-Failed : goal.returns-in-Failed
-unfolding line_words
-returns-in-Failed c = rw c.in-Failed.is c.put8-in-Failed.ensures
+returns c = elim c.match-line.branch [ in-Waiting w ↦ rw (c.copy_from_slice.ensures.after, w.words-is, w.in-Waiting.is) refl | in-Pending w ↦ rw (c.copy_from_slice.ensures.after, w.words-is, w.in-Pending.is, w.from.ensures, w.is_some.ensures, w.unwrap_or.ensures, (stamp-words w.in-Pending.snapshot).0, (stamp-words w.in-Pending.snapshot).1) refl | in-InLine w ↦ rw (c.copy_from_slice.ensures.after, w.words-is, w.in-InLine.is, w.from-in-InLine.ensures, w.from-in-InLine-2.ensures, flag-byte w.in-InLine.due0, flag-byte w.in-InLine.due1) refl | in-Failed w ↦ rw (c.copy_from_slice.ensures.after, w.words-is, w.in-Failed.is) refl ]

@@ -10,7 +10,7 @@ returns-in-1 c = rw (c.in-1.is, c.load64-conn.ensures, c.load64-time.ensures)
 
 pub returns-in-2 : goal.returns-in-2
 unfolding by_call
-returns-in-2 c = rw (c.in-2.is, c.load64-conn.ensures, c.wide-index.ensures, c.load64-message.ensures, c.load64-time.ensures)
+returns-in-2 c = rw (c.in-2.is, c.load64-conn.ensures, c.from-index.ensures, c.load64-message.ensures, c.load64-time.ensures)
 
 pub returns-in-3 : goal.returns-in-3
 unfolding by_call
@@ -34,7 +34,7 @@ returns-in-7 c = rw (c.in-7.is, c.load64-time.ensures)
 
 pub returns-in-8 : goal.returns-in-8
 unfolding by_call
-returns-in-8 c = rw (c.in-8.is, c.wide-index.ensures, c.load64-time.ensures)
+returns-in-8 c = rw (c.in-8.is, c.from-index.ensures, c.load64-time.ensures)
 
 pub returns-in_default : goal.returns-in_default
 returns-in_default c = sym (no_call _ _ (omega arith) (omega arith) (omega arith) (omega arith) (omega arith) (omega arith) (omega arith) (omega arith))

@@ -1,5 +1,4 @@
 use mathlib.Core.Path.{◌≡◌}
-use Prim.Native.Nat.{◌-◌, ◌≤◌}
 use lib.ListN.{drop}
 use Rattle.rules.specs.Lists.{any}
 use Rattle.rules.specs.Lines.{Connection}
@@ -8,7 +7,4 @@ use Rattle.store.specs.Store.{market_of}
 use Rattle.market.proofs.asking.servable.Given as goal
 
 abbrev pub invariant-loop-i : goal.invariant-loop-i
-invariant-loop-i l = (l.i ≤ l.n) × (servable (market_of l.s) ≡ any (λ (x : Connection). can_serve x.line) (drop l.i (market_of l.s).lines))
-
-abbrev pub decreases-loop-i : goal.decreases-loop-i
-decreases-loop-i l = l.n - l.i
+invariant-loop-i l = servable (market_of l.s) ≡ any (λ (x : Connection). can_serve x.line) (drop l.i (market_of l.s).lines)

@@ -1,5 +1,4 @@
 use mathlib.Core.Path.{◌≡◌}
-use Prim.Native.Nat.{◌≤◌}
 use lib.ListN.{drop}
 use Rattle.rules.specs.Calls.{source}
 use Rattle.store.specs.Store.{market_of}
@@ -7,7 +6,4 @@ use Rattle.market.specs.Claims.{source_of}
 use Rattle.market.proofs.promoting.source.Given as goal
 
 abbrev pub invariant-loop-i : goal.invariant-loop-i
-invariant-loop-i l = (l.i ≤ l.initial.i) × (source_of l.best ≡ source l.i (drop l.i (market_of l.s).lines))
-
-abbrev pub decreases-loop-i : goal.decreases-loop-i
-decreases-loop-i l = l.i
+invariant-loop-i l = source_of l.best ≡ source l.i (drop l.i (market_of l.s).lines)

@@ -11,4 +11,4 @@ returns-then-b c =
 pub returns : goal.returns
 returns c =
     let a = c.args in
-    (digit-read a.names.now a.at _ (c.wide.ensures ∙ c.byte_in-b.ensures) (λ e. omega arith), omega arith)
+    (digit-read a.names.now a.at _ (c.from.ensures ∙ c.byte_in-b.ensures) (λ e. omega arith), omega arith)

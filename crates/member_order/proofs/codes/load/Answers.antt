@@ -8,7 +8,7 @@ use Rattle.member_order.proofs.Making.{made_none, made-here, made_more}
 use Rattle.member_order.proofs.codes.load.Goals as goal
 
 pub loop-i-init : goal.loop-i-init
-loop-i-init c = (omega arith, made_none (WordOf (name_in c.args.names.now)) _ _)
+loop-i-init c = made_none (WordOf (name_in c.args.names.now)) _ _
 
 pub word-requires : goal.word-requires
 word-requires c =
@@ -17,22 +17,22 @@ word-requires c =
     let h : i < c.args.n = omega arith in
     omega (
       arith,
-      made-here (WordOf (name_in c.args.names.now)) v c.args.low i c.loop-i.places c.loop-i.invariant.1,
+      made-here (WordOf (name_in c.args.names.now)) v c.args.low i c.loop-i.places c.loop-i.invariant,
       get_d-run v c.args.low c.args.n i h,
       c.requires.1 i (omega (arith, length_run v c.args.low c.args.n c.requires.0)),
     )
 
 pub loop-i-preserved : goal.loop-i-preserved
 loop-i-preserved c =
-    let m = c.loop-i.invariant.1 in
+    let m = c.loop-i.invariant in
     let R = WordOf (name_in c.args.names.now) in
-    (omega arith, made_more R _ _ _ _ m _ (omega arith) (rw (made-here R _ _ _ _ m) at c.word.ensures))
+    made_more R _ _ _ _ m _ (omega arith) (rw (made-here R _ _ _ _ m) at c.word.ensures)
 
 pub shape_of-places : goal.shape_of-places
-shape_of-places c = c.loop-i.invariant.1.size
+shape_of-places c = c.loop-i.invariant.size
 
 pub returns : goal.returns
 returns c =
     let b = c.loop-i in
     let q : b.i ≡ c.args.n = omega arith in
-    rw q at b.invariant.1
+    rw q at b.invariant

@@ -6,18 +6,18 @@ use Rattle.member_order.proofs.Making.{made_none, made_more, made-here}
 use Rattle.member_order.proofs.codes.store.Goals as goal
 
 pub loop-i-init : goal.loop-i-init
-loop-i-init c = (omega arith, made_none PlaceOf _ _)
+loop-i-init c = made_none PlaceOf _ _
 
 pub loop-i-preserved : goal.loop-i-preserved
 loop-i-preserved c =
-    let m = c.loop-i.invariant.1 in
-    (omega arith, made_more PlaceOf _ _ _ _ m _ (omega arith) (ap (λ (x : ℕ). x % 65536) (made-here PlaceOf _ _ _ _ m)))
+    let m = c.loop-i.invariant in
+    made_more PlaceOf _ _ _ _ m _ (omega arith) (ap (λ (x : ℕ). x % 65536) (made-here PlaceOf _ _ _ _ m))
 
 pub shape_of-words : goal.shape_of-words
-shape_of-words c = c.loop-i.invariant.1.size
+shape_of-words c = c.loop-i.invariant.size
 
 pub returns : goal.returns
 returns c =
     let b = c.loop-i in
     let q : b.i ≡ c.args.n = omega arith in
-    rw q at b.invariant.1
+    rw q at b.invariant

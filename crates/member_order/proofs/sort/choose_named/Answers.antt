@@ -1,19 +1,19 @@
 use mathlib.Core.Path.{sym, ◌∙◌, ap}
-use Rattle.member_order.specs.declared.compare.Order.{Order}
+use Rattle.std.specs.declared.cmp.Ordering.{Ordering}
 use Rattle.member_order.specs.Order.{pick_by}
 use Rattle.member_order.proofs.sort.choose_named.Goals as goal
 
-pub returns-in-Before : goal.returns-in-Before
-returns-in-Before c =
+pub returns-in-Less : goal.returns-in-Less
+returns-in-Less c =
     let a = c.args in
-    ap (λ (o : Order). pick_by o a.x a.y a.i a.j) (sym c.in-Before.is ∙ c.order_behind.ensures)
+    ap (λ (o : Ordering). pick_by o a.x a.y a.i a.j) (sym c.in-Less.is ∙ c.order_behind.ensures)
 
-pub returns-in-Same : goal.returns-in-Same
-returns-in-Same c =
+pub returns-in-Equal : goal.returns-in-Equal
+returns-in-Equal c =
     let a = c.args in
-    ap (λ (o : Order). pick_by o a.x a.y a.i a.j) (sym c.in-Same.is ∙ c.order_behind.ensures)
+    ap (λ (o : Ordering). pick_by o a.x a.y a.i a.j) (sym c.in-Equal.is ∙ c.order_behind.ensures)
 
-pub returns-in-After : goal.returns-in-After
-returns-in-After c =
+pub returns-in-Greater : goal.returns-in-Greater
+returns-in-Greater c =
     let a = c.args in
-    ap (λ (o : Order). pick_by o a.x a.y a.i a.j) (sym c.in-After.is ∙ c.order_behind.ensures)
+    ap (λ (o : Ordering). pick_by o a.x a.y a.i a.j) (sym c.in-Greater.is ∙ c.order_behind.ensures)

@@ -1,10 +1,6 @@
 use Rattle.moves.proofs.EnteringLaws.{event-done}
 use Rattle.moves.proofs.entering.put_item.Goals as goal
 
-pub returns-in-Snapshot : goal.returns-in-Snapshot
-returns-in-Snapshot c =
-    rw c.in-Snapshot.is (c.put_snapshot.ensures _)
-
 pub returns-in-Event : goal.returns-in-Event
 returns-in-Event c =
     rw c.in-Event.is (event-done c.args.conn c.args.t _ _ c.push_out.ensures)

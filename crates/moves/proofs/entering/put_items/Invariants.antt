@@ -1,5 +1,4 @@
 use mathlib.Core.Path.{◌≡◌}
-use Prim.Native.Nat.{◌-◌, ◌≤◌}
 use lib.ListN.{length, take}
 use Rattle.rules.specs.Lines.{conn_at, items_of}
 use Rattle.rules.specs.Entering.{put_items}
@@ -8,9 +7,5 @@ use Rattle.moves.specs.Does.{Does}
 use Rattle.moves.proofs.entering.put_items.Given as goal
 
 abbrev pub invariant-loop-j : goal.invariant-loop-j
-invariant-loop-j l = (l.j ≤ l.held)
-    × ((length l.s ≡ length l.initial.s)
-    × ((length l.out ≡ length l.initial.out) × Does (put_items (conn_at l.i (market_of l.initial.s)).conn l.t (take l.j (items_of (conn_at l.i (market_of l.initial.s)).line))) l.initial.s l.initial.out l.n l.s l.out l.m))
-
-abbrev pub decreases-loop-j : goal.decreases-loop-j
-decreases-loop-j l = l.held - l.j
+invariant-loop-j l = (length l.s ≡ length l.initial.s)
+    × ((length l.out ≡ length l.initial.out) × Does (put_items (conn_at l.i (market_of l.initial.s)).conn l.t (take l.j (items_of (conn_at l.i (market_of l.initial.s)).line))) l.initial.s l.initial.out l.n l.s l.out l.m)

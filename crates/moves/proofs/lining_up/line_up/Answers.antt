@@ -27,8 +27,8 @@ overflow_add-next c =
     let b = roomy c.requires.0.sound c.requires.1.here in
     omega (arith, c.events_held-events.ensures)
 
-pub overflow_add-j : goal.overflow_add-j
-overflow_add-j c =
+pub overflow_add-place : goal.overflow_add-place
+overflow_add-place c =
     let a = c.requires.1.event in
     let b = roomy c.requires.0.sound c.requires.1.here in
     let e = log-ends c.args.s.now in
@@ -39,7 +39,7 @@ push_events-m-requires c = items-room c.requires.0 c.requires.1.here
 
 pub enter-requires : goal.enter-requires
 enter-requires c =
-    enter-room c.requires.0 c.requires.1 _ c.args.t (c.args.j + (c.end.result - c.args.p)) c.push_events-m.ensures c.push_events-m.auto.out
+    enter-room c.requires.0 c.requires.1 _ c.args.t (c.args.place.event + (c.end.result - c.args.place.number)) c.push_events-m.ensures c.push_events-m.auto.out
 
 pub returns : goal.returns
 returns c =

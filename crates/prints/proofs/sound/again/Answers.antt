@@ -5,9 +5,6 @@ use Rattle.rules.proofs.Tests.{ff≢tt}
 use Rattle.rows.specs.Rows.{row_at}
 use Rattle.prints.proofs.sound.again.Goals as goal
 
-pub returns-then-j-eq0 : goal.returns-then-j-eq0
-returns-then-j-eq0 c s = omega (arith, s.behind)
-
 pub returns : goal.returns
 unfolding row_at
 returns c =

@@ -1,4 +1,3 @@
-use borrow.Author.Rules.{rules}
 use native.Mathlib.Omega.{arith}
 use Rattle.rows.specs.Rows.{row_at}
 use Rattle.rows.proofs.Search.{found, missed}
@@ -9,38 +8,32 @@ pub next_key-requires : goal.next_key-requires
 unfolding row_at
 next_key-requires c =
     let s = c.requires in
-    record { n_in_bounds = (omega (arith, s.table.0.lies.inside), s.rises.1.old.within); y_value = past-below _ _ _ _ _ _ s.rises.1.old s.rises.0 }
+    record { n_in_bounds = (omega (arith, s.table.0.lies.inside), s.rises.1.old.within); key_value = past-below _ _ _ _ _ _ s.rises.1.old s.rises.0 }
 
-pub overflow_add-result : goal.overflow_add-result
-overflow_add-result c = let h = (found c.next_key.ensures c.in-At.is).within in search rules
-
-pub next_key-requires-in-Gap : goal.next_key-requires-in-Gap
+pub next_key-requires-in-Err : goal.next_key-requires-in-Err
 unfolding row_at
-next_key-requires-in-Gap c =
+next_key-requires-in-Err c =
     let s = c.requires in
-    record { n_in_bounds = (omega (arith, s.table.0.lies.inside), s.rises.1.new.within); y_value = past-below _ _ _ _ _ _ s.rises.1.new s.rises.0 }
+    record { n_in_bounds = (omega (arith, s.table.0.lies.inside), s.rises.1.new.within); key_value = past-below _ _ _ _ _ _ s.rises.1.new s.rises.0 }
 
-pub overflow_add-result-in-At-next_key : goal.overflow_add-result-in-At-next_key
-overflow_add-result-in-At-next_key c = let h = (found c.next_key-in-Gap.ensures c.in-At-next_key.is).within in search rules
-
-pub returns-in-At : goal.returns-in-At
+pub returns-in-Ok : goal.returns-in-Ok
 unfolding row_at
-returns-in-At c =
+returns-in-Ok c =
     let s = c.requires in
-    owned-old _ _ _ _ _ s.rises.1 s.table.0 s.rises.0 _ (found c.next_key.ensures c.in-At.is)
+    owned-old _ _ _ _ _ s.rises.1 s.table.0 s.rises.0 _ (found c.next_key.ensures c.in-Ok.is)
 
-pub returns-in-At-next_key : goal.returns-in-At-next_key
+pub returns-in-Ok-next_key : goal.returns-in-Ok-next_key
 unfolding row_at
-returns-in-At-next_key c =
+returns-in-Ok-next_key c =
     let s = c.requires in
     owned-new _ _ _ _ _ s.rises.1 s.table.0 s.rises.0 _ _
-    (missed c.next_key.ensures c.in-Gap.is)
-    (found c.next_key-in-Gap.ensures c.in-At-next_key.is)
+    (missed c.next_key.ensures c.in-Err.is)
+    (found c.next_key-in-Err.ensures c.in-Ok-next_key.is)
 
-pub returns-in-Gap-next_key : goal.returns-in-Gap-next_key
+pub returns-in-Err-next_key : goal.returns-in-Err-next_key
 unfolding row_at
-returns-in-Gap-next_key c =
+returns-in-Err-next_key c =
     let s = c.requires in
     owned-not _ _ _ _ _ s.rises.1 s.table.0 s.rises.0 _ _
-    (missed c.next_key.ensures c.in-Gap.is)
-    (missed c.next_key-in-Gap.ensures c.in-Gap-next_key.is)
+    (missed c.next_key.ensures c.in-Err.is)
+    (missed c.next_key-in-Err.ensures c.in-Err-next_key.is)

@@ -2,11 +2,6 @@ use Rattle.words.proofs.Cases.{says-yes, says-no}
 use Rattle.prints.proofs.Soundness.{sound-keys, sound-done}
 use Rattle.prints.proofs.sound.tables_sound.Goals as goal
 
-pub counts_sound-requires : goal.counts_sound-requires
-counts_sound-requires c =
-    let s = c.requires in
-    (record { lies = s.keys; rises = (says-yes _ c.keys_sound.ensures c.if-keys_sound.true).rises }, s.counts)
-
 pub returns-then-keys_sound : goal.returns-then-keys_sound
 returns-then-keys_sound c =
     let s = c.args in
@@ -14,5 +9,5 @@ returns-then-keys_sound c =
     (says-yes _ c.keys_sound.ensures c.if-keys_sound.true)
     c.counts_sound.ensures
 
-pub returns : goal.returns
-returns c s = says-no _ c.keys_sound.ensures c.if-keys_sound.false (sound-keys _ _ _ s)
+pub returns-else-keys_sound : goal.returns-else-keys_sound
+returns-else-keys_sound c = rw c.if-keys_sound.false (λ s. says-no _ c.keys_sound.ensures c.if-keys_sound.false (sound-keys _ _ _ s))

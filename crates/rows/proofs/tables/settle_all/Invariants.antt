@@ -3,6 +3,3 @@ use Rattle.rows.proofs.tables.settle_all.Given as goal
 
 abbrev pub invariant-loop-j : goal.invariant-loop-j
 invariant-loop-j l = Settling l.three l.b l.initial.i l.initial.j l.initial.t l.t l.i l.j
-
-abbrev pub decreases-loop-j : goal.decreases-loop-j
-decreases-loop-j l = l.j

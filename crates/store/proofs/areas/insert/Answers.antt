@@ -8,8 +8,12 @@ use Rattle.store.proofs.areas.insert.Goals as goal
 pub loop-j-init : goal.loop-j-init
 loop-j-init c = opening-start _ _ c.requires _ c.line_start-a.ensures
 
-pub overflow_sub-b : goal.overflow_sub-b
-overflow_sub-b c =
+pub overflow_sub-a : goal.overflow_sub-a
+overflow_sub-a c =
+    opening-back _ _ c.requires _ _ _ c.loop-j.invariant (omega arith)
+
+pub overflow_sub-a-in-loop-j : goal.overflow_sub-a-in-loop-j
+overflow_sub-a-in-loop-j c =
     opening-back _ _ c.requires _ _ _ c.loop-j.invariant (omega arith)
 
 pub copy-requires : goal.copy-requires
@@ -21,8 +25,8 @@ loop-j-preserved c =
     let l = c.loop-j in
     opening-more _ _ c.requires _ _ _ l.invariant (omega arith) _ c.copy.ensures _ _ refl refl
 
-pub overflow_add-f : goal.overflow_add-f
-overflow_add-f c =
+pub overflow_add-a : goal.overflow_add-a
+overflow_add-a c =
     let l = c.loop-j in
     omega (arith, place-fits _ _ c.requires _ _ _ l.invariant, l.invariant.size)
 
@@ -54,9 +58,3 @@ returns c =
     let l = c.loop-j in
     let p = c.put_waiting in
     opening-done _ _ c.requires _ _ _ l.invariant (omega arith) p.new.area p.auto.area c.args.conn c.args.limit c.args.t p.ensures
-
-pub overflow_sub-j : goal.overflow_sub-j
-overflow_sub-j c = omega arith
-
-pub loop-j-smaller : goal.loop-j-smaller
-loop-j-smaller c = omega arith

@@ -8,8 +8,14 @@ use Rattle.store.proofs.areas.take_out.Goals as goal
 pub loop-j-init : goal.loop-j-init
 loop-j-init c = closing-start _ _ c.requires _ c.line_start-a.ensures
 
-pub overflow_add-b : goal.overflow_add-b
-overflow_add-b c =
+pub overflow_add-a : goal.overflow_add-a
+overflow_add-a c =
+    let l = c.loop-j in
+    let r = closing-ready _ _ c.requires _ _ _ l.invariant (omega arith) in
+    omega (arith, r.target, l.invariant.size)
+
+pub overflow_add-a-in-loop-j : goal.overflow_add-a-in-loop-j
+overflow_add-a-in-loop-j c =
     let l = c.loop-j in
     let r = closing-ready _ _ c.requires _ _ _ l.invariant (omega arith) in
     omega (arith, r.target, l.invariant.size)
@@ -34,9 +40,3 @@ shape_of-s c = simp length-set c.loop-j.invariant.size
 pub returns : goal.returns
 returns c =
     closing-done _ _ c.requires _ _ _ _ c.loop-j.invariant refl (omega arith)
-
-pub overflow_add-j : goal.overflow_add-j
-overflow_add-j c = omega arith
-
-pub loop-j-smaller : goal.loop-j-smaller
-loop-j-smaller c = omega arith

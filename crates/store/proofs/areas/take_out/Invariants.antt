@@ -3,7 +3,4 @@ use Rattle.store.proofs.AreaSteps.{Closing}
 use Rattle.store.proofs.areas.take_out.Given as goal
 
 abbrev pub invariant-loop-j : goal.invariant-loop-j
-invariant-loop-j l = Closing l.initial.s l.s l.i l.j l.a
-
-abbrev pub decreases-loop-j : goal.decreases-loop-j
-decreases-loop-j l = l.last - l.j
+invariant-loop-j l = Closing l.initial.s l.s l.i l._j l.a

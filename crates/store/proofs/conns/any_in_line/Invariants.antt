@@ -6,7 +6,4 @@ use Rattle.store.specs.Store.{market_of}
 use Rattle.store.proofs.conns.any_in_line.Given as goal
 
 abbrev pub invariant-loop-i : goal.invariant-loop-i
-invariant-loop-i l = (l.i ≤ l.n) × (someone (market_of l.s).lines ≡ someone (drop l.i (market_of l.s).lines))
-
-abbrev pub decreases-loop-i : goal.decreases-loop-i
-decreases-loop-i l = l.n - l.i
+invariant-loop-i l = someone (market_of l.s).lines ≡ someone (drop l.i (market_of l.s).lines)

@@ -1,4 +1,4 @@
-use mathlib.Core.Path.{sym, ◌∙◌}
+use mathlib.Core.Path.{◌≡◌, sym, ◌∙◌}
 use Prim.Native.Nat.{◌-◌}
 use native.Mathlib.Omega.{arith}
 use borrow.Author.Tests.{eq-eqb, ne_eqb}
@@ -6,28 +6,17 @@ use Rattle.store.proofs.ConnLaws.{of_conn, find-here, find-over, find-end}
 use Rattle.store.proofs.conns.find.Goals as goal
 
 pub loop-i-init : goal.loop-i-init
-loop-i-init c = (omega arith, omega arith)
-
-pub conn_at-requires : goal.conn_at-requires
-conn_at-requires c = record { lined = c.requires; here = omega arith }
+loop-i-init c = omega arith
 
 pub returns-then-conn_at-conn : goal.returns-then-conn_at-conn
 returns-then-conn_at-conn c =
-    find-here _ c.loop-i.i (of_conn c.args.conn) (omega arith) (eq-eqb _ _ (sym c.conn_at.ensures ∙ c.if-conn_at-conn.true)) ∙ sym c.loop-i.invariant.1
+    find-here _ c.loop-i.i (of_conn c.args.conn) (omega arith) (eq-eqb _ _ (sym c.conn_at.ensures ∙ c.if-conn_at-conn.true)) ∙ sym c.loop-i.invariant
 
 pub loop-i-preserved : goal.loop-i-preserved
 loop-i-preserved c =
-    (omega arith, c.loop-i.invariant.1 ∙ find-over _ c.loop-i.i (of_conn c.args.conn) (omega arith) (ne_eqb _ _ (λ q. c.if-conn_at-conn.false (c.conn_at.ensures ∙ q))))
+    (c.loop-i.invariant ∙ find-over _ c.loop-i.i (of_conn c.args.conn) (omega arith) (ne_eqb _ _ (λ q. c.if-conn_at-conn.false (c.conn_at.ensures ∙ q))))
 
 pub returns : goal.returns
 returns c =
-    find-end _ c.loop-i.i (of_conn c.args.conn) (omega arith) ∙ sym c.loop-i.invariant.1
-
-pub bounds-s-9 : goal.bounds-s-9
-bounds-s-9 c = omega arith
-
-pub overflow_add-i : goal.overflow_add-i
-overflow_add-i c = omega arith
-
-pub loop-i-smaller : goal.loop-i-smaller
-loop-i-smaller c = omega arith
+    let e : c.count-n.result ≡ c.loop-i.i = omega arith in
+    e ∙ find-end _ c.loop-i.i (of_conn c.args.conn) (omega arith) ∙ sym c.loop-i.invariant

@@ -7,7 +7,4 @@ use Rattle.store.proofs.ConnLaws.{of_conn}
 use Rattle.store.proofs.conns.find.Given as goal
 
 abbrev pub invariant-loop-i : goal.invariant-loop-i
-invariant-loop-i l = (l.i ≤ l.n) × (index (of_conn l.conn) (market_of l.s).lines ≡ l.i + index (of_conn l.conn) (drop l.i (market_of l.s).lines))
-
-abbrev pub decreases-loop-i : goal.decreases-loop-i
-decreases-loop-i l = l.n - l.i
+invariant-loop-i l = index (of_conn l.conn) (market_of l.s).lines ≡ l.i + index (of_conn l.conn) (drop l.i (market_of l.s).lines)

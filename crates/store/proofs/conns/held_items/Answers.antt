@@ -4,10 +4,7 @@ use Rattle.store.proofs.ConnLaws.{held-from, held-end}
 use Rattle.store.proofs.conns.held_items.Goals as goal
 
 pub loop-i-init : goal.loop-i-init
-loop-i-init c = (omega arith, omega arith)
-
-pub line_at-requires : goal.line_at-requires
-line_at-requires c = record { lined = c.requires.0; here = omega arith }
+loop-i-init c = omega arith
 
 pub overflow_add-held : goal.overflow_add-held
 overflow_add-held c =
@@ -17,21 +14,9 @@ overflow_add-held c =
 pub loop-i-preserved : goal.loop-i-preserved
 loop-i-preserved c =
     let q = held-from c.args.s.now c.loop-i.i (omega arith) _ c.line_at.ensures _ c.held-held.ensures in
-    (omega arith, omega arith)
+    omega arith
 
 pub returns : goal.returns
 returns c =
     let q = held-end c.args.s.now c.loop-i.i (omega arith) in
     omega arith
-
-pub bounds-s-9 : goal.bounds-s-9
-bounds-s-9 c = omega arith
-
-pub held-held-requires : goal.held-held-requires
-held-held-requires c = tt
-
-pub overflow_add-i : goal.overflow_add-i
-overflow_add-i c = omega arith
-
-pub loop-i-smaller : goal.loop-i-smaller
-loop-i-smaller c = omega arith

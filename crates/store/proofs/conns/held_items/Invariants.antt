@@ -6,7 +6,4 @@ use Rattle.store.specs.Store.{market_of}
 use Rattle.store.proofs.conns.held_items.Given as goal
 
 abbrev pub invariant-loop-i : goal.invariant-loop-i
-invariant-loop-i l = (l.i ≤ l.n) × (l.held + item_count (drop l.i (market_of l.s).lines) ≡ item_count (market_of l.s).lines)
-
-abbrev pub decreases-loop-i : goal.decreases-loop-i
-decreases-loop-i l = l.n - l.i
+invariant-loop-i l = l.held + item_count (drop l.i (market_of l.s).lines) ≡ item_count (market_of l.s).lines

@@ -6,10 +6,7 @@ use Rattle.store.proofs.conns.pendings.Goals as goal
 use Rattle.store.proofs.conns.pendings.Goals.{then-pending, else-pending}
 
 pub loop-i-init : goal.loop-i-init
-loop-i-init c = (omega arith, omega arith)
-
-pub line_at-requires : goal.line_at-requires
-line_at-requires c = record { lined = c.requires; here = omega arith }
+loop-i-init c = omega arith
 
 pub overflow_add-pending : goal.overflow_add-pending
 overflow_add-pending c =
@@ -24,23 +21,11 @@ loop-i-preserved c =
     let a = c.line_at.ensures in
     let b = c.pending.ensures in
     elim c.if-pending.branch [
-      | then-pending e ↦ let q = pending-here w c.loop-i.i (omega arith) _ a _ b e.if-pending.true in (omega arith, omega arith)
-      | else-pending e ↦ let q = pending-over w c.loop-i.i (omega arith) _ a _ b e.if-pending.false in (omega arith, omega arith)
+      | then-pending e ↦ let q = pending-here w c.loop-i.i (omega arith) _ a _ b e.if-pending.true in omega arith
+      | else-pending e ↦ let q = pending-over w c.loop-i.i (omega arith) _ a _ b e.if-pending.false in omega arith
     ]
 
 pub returns : goal.returns
 returns c =
     let q = pending-end c.args.s.now c.loop-i.i (omega arith) in
     omega arith
-
-pub bounds-s-9 : goal.bounds-s-9
-bounds-s-9 c = omega arith
-
-pub pending-requires : goal.pending-requires
-pending-requires c = tt
-
-pub overflow_add-i : goal.overflow_add-i
-overflow_add-i c = omega arith
-
-pub loop-i-smaller : goal.loop-i-smaller
-loop-i-smaller c = omega arith

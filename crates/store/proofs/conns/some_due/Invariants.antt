@@ -6,7 +6,4 @@ use Rattle.store.specs.Store.{market_of}
 use Rattle.store.proofs.conns.some_due.Given as goal
 
 abbrev pub invariant-loop-i : goal.invariant-loop-i
-invariant-loop-i l = (l.i ≤ l.n) × (some_due (market_of l.s).lines ≡ some_due (drop l.i (market_of l.s).lines))
-
-abbrev pub decreases-loop-i : goal.decreases-loop-i
-decreases-loop-i l = l.n - l.i
+invariant-loop-i l = some_due (market_of l.s).lines ≡ some_due (drop l.i (market_of l.s).lines)

@@ -7,6 +7,3 @@ use Rattle.writing.proofs.bytes.put_header.Given as goal
 
 abbrev pub invariant-loop-i : goal.invariant-loop-i
 invariant-loop-i l = (3 ≤ l.i) × (l.i ≤ 9) × (length l.out ≡ length l.initial.out) × (l.out ≡ written (l.pos + 3) (zeros (l.i - 3)) l.initial.out)
-
-abbrev pub decreases-loop-i : goal.decreases-loop-i
-decreases-loop-i l = 9 - l.i

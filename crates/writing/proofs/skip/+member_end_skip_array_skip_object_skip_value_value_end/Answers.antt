@@ -121,7 +121,7 @@ skip_object-loop-at-preserved t c =
 
 pub skip_value-returns-then-known-ne0 : goal.skip_value-returns-then-known-ne0
 skip_value-returns-then-known-ne0 t c =
-    (known-end c.args.text.now c.args.ends.now _ _ c.requires.known c.wide-known.ensures c.if-known-ne0.true, c.requires.known)
+    (known-end c.args.text.now c.args.ends.now _ _ c.requires.known c.from-known.ensures c.if-known-ne0.true, c.requires.known)
 
 pub skip_value-returns : goal.skip_value-returns
 skip_value-returns t c =

@@ -1,7 +1,7 @@
 use mathlib.Core.Path.{sym, ◌∙◌, ap, refl}
 use Prim.Native.Nat.{ℕ, ◌-◌, ◌+◌}
 use native.Mathlib.Omega.{arith}
-use lib.ListN.{length}
+use lib.ListN.{length, get_or}
 use Rattle.json_text.proofs.Places.{place-behind}
 use Rattle.writing.proofs.ArrayLaws.{array-room, array-none, array-first, item-writable, item-done, items_more, items-last}
 use Rattle.writing.proofs.RankLaws.{rank-item, rank-value, rank-member, rank-kind}
@@ -190,8 +190,8 @@ write_object-bounds-places-top t c =
     let p = c.loop-i.invariant in
     omega (arith, v.room_places, p.same-places)
 
-pub write_object-overflow_add-top-in-loop-i : goal.write_object-overflow_add-top-in-loop-i
-write_object-overflow_add-top-in-loop-i t c =
+pub write_object-overflow_add-name : goal.write_object-overflow_add-name
+write_object-overflow_add-name t c =
     let w = c.requires.0 in
     let a = c.collect-all.ensures in
     let e = c.collect-all.auto.places in
@@ -207,11 +207,11 @@ write_object-write_member-end-requires t c =
     let p = c.loop-i.invariant in
     let n = length c.args.places.now - c.args.top in
     let n' = length c.loop-i.places - (c.args.top + c.sort-count.result) in
-    let x = rank-member n n' (length c.args.text.now) c.args.at c.wide-name.result
+    let x = rank-member n n' (length c.args.text.now) c.args.at (get_or c.loop-i.places (c.args.top + c.loop-i.i) 0)
     (omega (arith, v.room_places, p.same-places, c.sort-count.auto.places, e, c.loop-i-test.true)) in
     let y = c.collect-all.auto.ends in (
       omega (arith, x, c.decreases),
-      member-writable v p c.put_header.auto.out c.loop-i-test.true _ c.wide-name.ensures w.short
+      member-writable v p c.put_header.auto.out c.loop-i-test.true _ refl w.short
           (omega (arith, w.room_ends, y)) (omega (arith, w.room_merged, c.sort-count.auto.merged)) (omega (arith, w.room_names, c.collect-all.auto.names)),
     )
 
@@ -227,7 +227,7 @@ write_object-loop-i-preserved t c =
     let v = in_order w a e c.sort-count.ensures.0 c.sort-count.ensures.1 in
     let p = c.loop-i.invariant in
     let n = c.write_member-end in
-    members-more v p c.put_header.auto.out c.loop-i-test.true _ c.wide-name.ensures n.ensures
+    members-more v p c.put_header.auto.out c.loop-i-test.true _ refl n.ensures
     n.auto.ends n.auto.places n.auto.merged n.auto.names n.auto.out
 
 pub write_object-shape_of-ends : goal.write_object-shape_of-ends

@@ -27,6 +27,3 @@ decreases-write_array-loop-out l = length l.text - l.i
 
 abbrev pub invariant-write_object-loop-i : goal.invariant-write_object-loop-i
 invariant-write_object-loop-i l = MembersDone l.text l.initial.ends l.initial.places l.initial.merged l.initial.names l.initial.out l.ends l.places l.merged l.names l.out l.top l.count l.initial.end l.i l.end
-
-abbrev pub decreases-write_object-loop-i : goal.decreases-write_object-loop-i
-decreases-write_object-loop-i l = l.count - l.i

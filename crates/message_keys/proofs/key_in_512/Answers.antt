@@ -1,9 +1,0 @@
-use Rattle.message_keys.proofs.Laws.{count_fits, key-of-written}
-use Rattle.message_keys.proofs.key_in_512.Goals as goal
-
-pub slice_bounds-key_of-end : goal.slice_bounds-key_of-end
-slice_bounds-key_of-end c = count_fits _ _ _ _ c.write_512-count.ensures
-
-pub returns : goal.returns
-returns c =
-    key-of-written _ _ _ _ _ c.write_512-count.ensures c.key_of.ensures
