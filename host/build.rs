@@ -4,7 +4,12 @@ use std::path::{Path, PathBuf};
 use std::process::{exit, Command};
 
 const ARCHIVE: &str = "POLLENDRIFT_ARCHIVE";
-const LIBRARIES: [&str; 4] = ["owned", "exports", "depth_exports", "json_exports"];
+/// The archives of the merge, and those that a feature adds.
+const MERGE: [&str; 2] = ["owned", "exports"];
+const ADDED: [(&str, &str); 2] = [
+    ("CARGO_FEATURE_DEPTH", "depth_exports"),
+    ("CARGO_FEATURE_JSON", "json_exports"),
+];
 const ORIGINAL: &str = "FEED_MERGE";
 
 fn fail(why: &str) -> ! {
@@ -20,18 +25,28 @@ fn run(what: &str, command: &mut Command) {
     }
 }
 
-/// An archive of the repository. To make it takes minutes of proving, of which cargo would show nothing, so that is asked for.
-fn of_repository(root: &Path, library: &str) -> PathBuf {
-    let archive = root.join(format!("target/staticlib/lib{library}.a"));
-    if !archive.is_file() {
+/// The archives that this build links.
+fn libraries() -> Vec<&'static str> {
+    let of_features = ADDED
+        .into_iter()
+        .filter(|(feature, _)| std::env::var_os(feature).is_some())
+        .map(|(_, library)| library);
+    MERGE.into_iter().chain(of_features).collect()
+}
+
+/// Archives of the repository. To make them takes minutes of proving, of which cargo would show nothing, so that is asked for.
+fn of_repository(root: &Path, libraries: &[&str]) -> Vec<PathBuf> {
+    let path = |library: &&str| root.join(format!("target/staticlib/lib{library}.a"));
+    if let Some(absent) = libraries.iter().find(|library| !path(library).is_file()) {
         fail(&format!(
-            "There is no target/staticlib/lib{library}.a yet. Make the archives of the proved calls first, in the repository's root:\n\n    \
-             bash support/made archive owned exports depth_exports json_exports\n\n\
+            "There is no target/staticlib/lib{absent}.a yet. Make the archives of the proved calls first, in the repository's root:\n\n    \
+             bash support/made archive {}\n\n\
              The first time this proves the calls, which takes minutes and shows its progress. Where the Rattle \
-             kit with `rt` is not at hand, set {ARCHIVE} to archives that were made elsewhere (host/README.md)."
+             kit with `rt` is not at hand, set {ARCHIVE} to archives that were made elsewhere (host/README.md).",
+            libraries.join(" ")
         ));
     }
-    archive
+    libraries.iter().map(path).collect()
 }
 
 /// An archive that the environment names.
@@ -55,9 +70,7 @@ fn archives(root: &Path) -> Vec<PathBuf> {
     println!("cargo:rerun-if-env-changed={ARCHIVE}");
     match std::env::var_os(ARCHIVE) {
         Some(paths) if !paths.is_empty() => std::env::split_paths(&paths).map(named).collect(),
-        _ => LIBRARIES
-            .map(|library| of_repository(root, library))
-            .to_vec(),
+        _ => of_repository(root, &libraries()),
     }
 }
 

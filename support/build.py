@@ -8,8 +8,8 @@ from pathlib import Path
 
 ROOT = Path(__file__).resolve().parent.parent
 TARGET = ROOT / "target"
-# the archives that the host crate links
-ARCHIVES = ["owned", "exports", "depth_exports", "json_exports"]
+# the archives that the host crate links for the merge alone
+ARCHIVES = ["owned", "exports"]
 
 
 class Missing(Exception):
@@ -29,33 +29,43 @@ def fresh(made, since):
     return made.is_file() and made.stat().st_mtime >= since
 
 
-def run(command, folder, why):
-    """Runs a command and shows what it prints as messages; says why where it takes long."""
-    if shutil.which(command[0]) is None:
-        raise Missing(f"{command[0]} is not on the PATH, and {' '.join(command)} is needed (README.md, 'Run it')")
-    if why:
-        print(f"replay: {why}: {' '.join(command)}", file=sys.stderr, flush=True)
+def need(*tools):
+    """Stops where one of these tools is not at hand."""
+    absent = [tool for tool in tools if shutil.which(tool) is None]
+    if absent:
+        raise Missing(f"not on the PATH: {', '.join(absent)} (README.md, 'Run it', says what each is for)")
+
+
+def run(command, folder):
+    """Runs a command and shows what it prints as messages."""
     done = subprocess.run(command, cwd=folder, stdout=sys.stderr, stdin=subprocess.DEVNULL)
     if done.returncode:
         raise Missing(f"{' '.join(command)} ended with status {done.returncode}")
 
 
+def prove(kind, names, why):
+    """Has rt prove and make what takes minutes, and says why."""
+    need("rt")
+    command = ["bash", "support/made", kind, *names]
+    print(f"replay: {why}: {' '.join(command)}", file=sys.stderr, flush=True)
+    run(command, ROOT)
+
+
 def program():
     """The path of the replay program."""
     made = TARGET / "bin/replay"
-    since = max(sources())
-    if not fresh(made, since):
+    if not fresh(made, max(sources())):
         why = "the program is older than a source" if made.exists() else "there is no program yet, and to prove it takes minutes"
-        run(["bash", "support/made", "program", "replay"], ROOT, why)
+        prove("program", ["replay"], why)
     return str(made)
 
 
 def readings():
     """The path of the program that prints a store's reading after each call: host/examples/readings."""
     since = max(sources())
-    for name in ARCHIVES:
-        made = TARGET / f"staticlib/lib{name}.a"
-        if not fresh(made, since):
-            run(["bash", "support/made", "archive", name], ROOT, "a page needs the calls of the host crate, and to prove them takes minutes the first time")
-    run(["cargo", "build", "--quiet", "--offline", "--locked", "--target-dir", "target", "--example", "readings"], ROOT / "host", None)
+    absent = [name for name in ARCHIVES if not fresh(TARGET / f"staticlib/lib{name}.a", since)]
+    if absent:
+        prove("archive", absent, "a page needs the calls of the host crate, and to prove them takes minutes the first time")
+    build = ["cargo", "build", "--quiet", "--offline", "--locked", "--target-dir", "target", "--no-default-features"]
+    run([*build, "--example", "readings"], ROOT / "host")
     return str(ROOT / "host/target/debug/examples/readings")

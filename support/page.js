@@ -89,12 +89,18 @@
         return box ? Number(box.id.slice(5)) : 0;
     }
 
-    document.addEventListener("pointerover", function (event) {
+    // Where the pointer was last. A page that scrolls below it brings other calls there, and these are not pointed at.
+    var place = "";
+    document.addEventListener("pointermove", function (event) {
+        if (place === event.clientX + " " + event.clientY) return;
+        place = event.clientX + " " + event.clientY;
+        var number = numberOf(event.target) || selected;
+        if (number && number !== shown) show(number);
+    });
+    // the Tab key goes from call to call too
+    document.addEventListener("focusin", function (event) {
         var number = numberOf(event.target);
         if (number) show(number);
-    });
-    document.addEventListener("pointerout", function (event) {
-        if (numberOf(event.target) && selected) show(selected);
     });
     document.addEventListener("click", function (event) {
         var link = event.target.closest ? event.target.closest('a[href^="#call-"]') : null;

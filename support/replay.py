@@ -97,6 +97,9 @@ def main():
     way, name = arguments(sys.argv[1:])
     data, called = read(name)
     records, wrong = records_of(data, called)
+    if way == "--page":
+        # before minutes go into a proof
+        build.need("cargo", "rustc", "cc")
     program = os.environ.get("REPLAY") or build.program()
     wrote, blocks = answered(program, data if wrong else records, records)
     if way == "--bare":

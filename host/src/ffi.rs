@@ -94,6 +94,10 @@ extern "C" {
     pub fn owned_any_in_line(store: *const u64, words: usize) -> bool;
     pub fn owned_servable(store: *const u64, words: usize) -> bool;
     pub fn merge_key(bytes: *const u8, length: usize, key0: &mut u64, key1: &mut u64);
+}
+
+#[cfg(feature = "depth")]
+extern "C" {
     pub fn owned_depth_set(
         prices: &mut [u32; 512],
         sizes: &mut [f64; 512],
@@ -122,6 +126,10 @@ extern "C" {
         count: usize,
         ceiling: u32,
     ) -> f64;
+}
+
+#[cfg(feature = "json")]
+extern "C" {
     pub fn json_canonical(
         text: *const u8,
         length: usize,

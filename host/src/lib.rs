@@ -6,13 +6,16 @@
 //!
 //! [`Store`] is a market by numbers: the proved calls as document 01 has them, for support tools and for hosts that number their messages
 //! themselves. [`EventKey::of_json`] is the key of a JSON message (`crates/json_exports`). [`Depth`] is a token's price levels, with the
-//! functions of the original `market_data` module (`crates/depth_exports`).
+//! functions of the original `market_data` module (`crates/depth_exports`). These two are the features `json` and `depth`, both on by
+//! default; each links one archive more.
 #![deny(missing_docs, unsafe_op_in_unsafe_fn)]
 #![warn(clippy::undocumented_unsafe_blocks)]
 
 pub mod codes;
+#[cfg(feature = "depth")]
 mod depth;
 mod ffi;
+#[cfg(feature = "json")]
 mod json;
 mod kept;
 mod key;
@@ -24,7 +27,9 @@ mod refusal;
 mod store;
 mod types;
 
+#[cfg(feature = "depth")]
 pub use depth::{Depth, LevelRefusal};
+#[cfg(feature = "json")]
 pub use json::{canonical_bytes, JsonRefusal};
 pub use key::EventKey;
 pub use limits::Limits;

@@ -164,7 +164,7 @@ def pointed_at(number, call, block, reading, data):
     counts, said = reading["counts"], store.get("counts of its key")
     expect((said is None) == (counts is None), f"{at}: counts {said}")
     if counts:
-        delivered = ", ".join(f"{count} by connection {conn}" for conn, count in counts["delivered"])
+        delivered = ", ".join(f"{count} by connection {conn}" for conn, count in counts["delivered"]) or "none"
         expect(said.startswith(f"applied {counts['applied']}; delivered {delivered}; "), f"{at}: counts {said}")
     rows = [data["lines"][place] for place in entry["lines"]]
     expect(len(rows) == len(reading["lines"]), f"{at}: {len(rows)} lines")
