@@ -3,6 +3,8 @@ import json
 import re
 
 ANSWER = re.compile(r"done|apply|duplicate|held|ignored|diverged|failed|kept|gone|rebuild|refused [0-9]+")
+# a record or a report under an answer
+UNDER = re.compile(r"put [0-9]+ [sbp]( [0-9]+){5}|(aligned|rebuild|failed) [0-9]+")
 KINDS = {"s": "snapshot", "b": "book", "p": "print"}
 REPORTS = ["aligned", "rebuild", "failed"]
 
@@ -20,6 +22,8 @@ REFUSALS = {
 
 
 class Differs(Exception):
+    """The program writes what it should not."""
+
     status = 3
 
 
@@ -29,13 +33,15 @@ def blocks(text):
     for line in text.splitlines():
         if ANSWER.fullmatch(line):
             found.append([line])
-        elif found and not line.startswith("bad record "):
+        elif found and UNDER.fullmatch(line):
             found[-1].append(line)
+        elif not re.fullmatch("bad record [0-9]+", line):
+            raise Differs(f"the program writes '{line[:60]}', which is no answer and no part of one")
     return found
 
 
 def words(line):
-    """A record in the words of a list. Any other line of an answer stays."""
+    """A record in the words of a list, or a tick's report."""
     if not line.startswith("put "):
         return line
     _, conn, kind, number, key0, key1, message, times = line.split()

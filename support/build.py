@@ -4,6 +4,7 @@ import os
 import shutil
 import subprocess
 import sys
+import time
 from pathlib import Path
 
 ROOT = Path(__file__).resolve().parent.parent
@@ -17,12 +18,17 @@ class Missing(Exception):
 
 
 def sources():
-    """The time of the latest change below crates/, but for what rt makes there."""
+    """The times of the latest changes below crates/, but for what rt makes there and hidden files. A folder's own time tells of a file that
+    came or went; rt makes its out/ in a crate's folder, so that one's tells nothing."""
     yield (ROOT / "crates.txt").stat().st_mtime
-    for folder, folders, names in os.walk(ROOT / "crates"):
-        folders[:] = [name for name in folders if name != "out"]
+    crates = ROOT / "crates"
+    for folder, folders, names in os.walk(crates):
+        folders[:] = [name for name in folders if name != "out" and not name.startswith(".")]
+        if Path(folder).parent not in (ROOT, crates):
+            yield os.stat(folder).st_mtime
         for name in names:
-            yield os.stat(os.path.join(folder, name)).st_mtime
+            if not name.startswith("."):
+                yield os.stat(os.path.join(folder, name)).st_mtime
 
 
 def fresh(made, since):
@@ -43,12 +49,16 @@ def run(command, folder):
         raise Missing(f"{' '.join(command)} ended with status {done.returncode}")
 
 
-def prove(kind, names, why):
-    """Has rt prove and make what takes minutes, and says why."""
+def prove(kind, made, why):
+    """Has rt prove and make what takes minutes, a path for each name, and says why. What is made is as old as the sources that were read: one
+    that changes meanwhile is newer."""
     need("rt")
-    command = ["bash", "support/made", kind, *names]
+    began = time.time()
+    command = ["bash", "support/made", kind, *made]
     print(f"replay: {why}: {' '.join(command)}", file=sys.stderr, flush=True)
     run(command, ROOT)
+    for path in made.values():
+        os.utime(path, (began, began))
 
 
 def program():
@@ -56,14 +66,15 @@ def program():
     made = TARGET / "bin/replay"
     if not fresh(made, max(sources())):
         why = "the program is older than a source" if made.exists() else "there is no program yet, and to prove it takes minutes"
-        prove("program", ["replay"], why)
+        prove("program", {"replay": made}, why)
     return str(made)
 
 
 def readings():
     """The path of the program that prints a store's reading after each call: host/examples/readings."""
     since = max(sources())
-    absent = [name for name in ARCHIVES if not fresh(TARGET / f"staticlib/lib{name}.a", since)]
+    archives = {name: TARGET / f"staticlib/lib{name}.a" for name in ARCHIVES}
+    absent = {name: path for name, path in archives.items() if not fresh(path, since)}
     if absent:
         prove("archive", absent, "a page needs the calls of the host crate, and to prove them takes minutes the first time")
     build = ["cargo", "build", "--quiet", "--offline", "--locked", "--target-dir", "target", "--no-default-features"]

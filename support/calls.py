@@ -39,26 +39,40 @@ FIELDS = ["CONN", "KEY0", "KEY1", "MESSAGE", "TIME", "INDEX"]
 INDEX = ("TOKEN", "ANSWER")
 RECORD = struct.Struct("<2sBQQQQQB")
 MARK = b"MG"
-# no text has these bytes, and every record has one: its call byte
-NO_TEXT = re.compile(rb"[\x00-\x08\x0e-\x1f]")
+# no text has these bytes, and every record has one: its call byte. Terminals and old systems leave 1A and 1B in a text
+NO_TEXT = re.compile(rb"[\x00-\x08\x0e-\x19\x1c-\x1f]")
+# what begins a text in UTF-16
+WIDE = (b"\xff\xfe", b"\xfe\xff")
 
 
 class Wrong(Exception):
     """What is wrong with a list, and where."""
 
 
+def text_of(data):
+    """A list's text. A mark at its start that says how it is encoded is none of it, nor is one that ends it."""
+    return data.decode("utf-16" if data.startswith(WIDE) else "utf-8-sig", errors="replace").removesuffix("\x1a")
+
+
 def is_records(data):
-    """Whether these bytes are meant as records; else they are a text."""
-    return data.startswith(MARK) or data == MARK[:1] or NO_TEXT.search(data) is not None
+    """Whether these bytes are meant as records; else they are a text. A text shows in what would be its first record."""
+    text = text_of(data[: RECORD.size]).encode() if data.startswith(WIDE) else data
+    return data.startswith(MARK) or data == MARK[:1] or NO_TEXT.search(text[: RECORD.size]) is not None
+
+
+def told(word):
+    """A word of a list in a message: not all of a very long one, and what a terminal does not show by its number."""
+    shown = word if len(word) <= 60 else word[:60] + "…"
+    return "".join(char if char.isprintable() else f"\\x{ord(char):02X}" for char in shown)
 
 
 def number(word, name, form):
     if not (word.isascii() and word.isdigit()):
-        raise Wrong(f"'{word}' stands where {name} is due, and is no decimal number: a call is '{form}'")
+        raise Wrong(f"'{told(word)}' stands where {name} is due, and is no decimal number: a call is '{form}'")
     limit, said = (256, "256") if name in INDEX else (2**64, "2^64")
     digits = word.lstrip("0") or "0"
     if len(digits) > 20 or int(digits) >= limit:
-        raise Wrong(f"{word} stands where {name} is due, and is not below {said}")
+        raise Wrong(f"{told(word)} stands where {name} is due, and is not below {said}")
     return int(digits)
 
 
@@ -74,10 +88,10 @@ def encode_line(words):
             if name.isupper():
                 values["INDEX" if name in INDEX else name] = number(word, name, form)
             elif name != word:
-                raise Wrong(f"'{word}' stands where '{name}' is due: a call is '{form}'")
+                raise Wrong(f"'{told(word)}' stands where '{name}' is due: a call is '{form}'")
         return RECORD.pack(MARK, call, *values.values())
     names = ", ".join(form.split()[0] for form in CALLS)
-    raise Wrong(f"there is no call '{words[0]}': a line begins with {names} or #")
+    raise Wrong(f"there is no call '{told(words[0])}': a line begins with {names} or #")
 
 
 def encode(text):
@@ -145,11 +159,6 @@ def decode(data):
     if what:
         raise Wrong(what)
     return "".join(line + "\n" for line in lines(good))
-
-
-def text_of(data):
-    """A list's text. A mark at its start that says how it is encoded is none of it."""
-    return data.decode("utf-8-sig", errors="replace")
 
 
 def main():

@@ -31,12 +31,16 @@ def item(entry):
 
 
 def listed(entries):
-    return f"{len(entries)}: {', '.join(entries)}" if entries else "0"
+    """How many there are, and each on a line of its own."""
+    return "\n".join([str(len(entries)), *entries])
+
+
+def due(tokens):
+    return f"token{'s' if len(tokens) > 1 else ''} {' and '.join(map(str, tokens))}" if tokens else "none"
 
 
 def line(reading):
     """A line's reading: connection, kind, next, due, held items and prints, the rest."""
-    due = " and ".join(map(str, reading["due"])) or "none"
     in_line = reading["kind"] == "In line"
     rest = [f"limit {reading['limit']}"]
     if reading["since"] is not None:
@@ -48,7 +52,7 @@ def line(reading):
         str(reading["conn"]),
         reading["kind"],
         str(reading["next"]) if in_line else "",
-        due if in_line else "",
+        due(reading["due"]) if in_line else "",
         listed([item(entry) for entry in reading["items"]]),
         listed(prints),
         ", ".join(rest),
@@ -65,11 +69,13 @@ def log(reading):
     ]
 
 
-def counts(reading):
-    """A row of the counts of a print's key, where it has some."""
-    found = reading["counts"]
-    if found is None:
+def counts(call):
+    """A row of the counts of a print's key. No other call has one."""
+    found = call.reading["counts"]
+    if call.carried["CALL"] != "print":
         return []
+    if found is None:
+        return [["counts of its key", "none"]]
     delivered = ", ".join(f"{count} by connection {conn}" for conn, count in found["delivered"]) or "none"
     return [["counts of its key", f"applied {found['applied']}; delivered {delivered}; touched at {found['touched']}"]]
 
@@ -102,7 +108,7 @@ def text(shown):
                 "answer": call.answer,
                 "why": answers.REFUSALS.get(call.answer, ""),
                 "put": [answers.words(line) for line in call.block],
-                "store": log(call.reading) + counts(call.reading),
+                "store": log(call.reading) + counts(call),
                 "lines": [lines.place(reading) for reading in call.reading["lines"]],
             }
         )

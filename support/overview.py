@@ -6,7 +6,7 @@ import answers
 # how high a lane's bar is, so that kinds are told apart without colours
 HEIGHTS = {"In line": 12, "Pending": 8, "Waiting": 4, "Failed": 2}
 LANE = 16
-# the answers that are marked below the lanes, and how far below
+# what is marked above the lanes, and how far down in the row of marks
 MARKS = {"refused": 0, "diverged": 5, "failed": 10}
 
 
@@ -42,12 +42,24 @@ def answer_list(shown):
         at = first[answer]
         link = f'<a href="#call-{at}">{answer}</a>{why}'
         items.append(f'<li class="{answer.split()[0]}">{link} <small>{many(count, "call", "calls")}, first {at}</small></li>')
-    return f'<ul class="answers">{"".join(items)}</ul>\n'
+    return f'<ul class="answers">{"".join([*items, *report_list(shown)])}</ul>\n'
+
+
+def report_list(shown):
+    """How many lines ticks reported of each kind, with the first tick that did."""
+    found = {}
+    for call in shown:
+        for line in call.block:
+            if not line.startswith("put "):
+                found.setdefault(line.split()[0], []).append(call.number)
+    for word, numbers in found.items():
+        at = f'<a href="#call-{numbers[0]}">{word} by a tick</a>'
+        yield f'<li class="{word}">{at} <small>{many(len(numbers), "line", "lines")}, first {numbers[0]}</small></li>'
 
 
 def runs(shown):
-    """For each connection that had a line: first call, call behind the last, and kind of each run of one kind."""
-    found, under_way = {}, {}
+    """For each connection: first call, call behind the last, and kind of each run of one kind."""
+    found, under_way = {call.conn: [] for call in shown if call.conn is not None}, {}
     for place, call in enumerate(shown):
         for conn in under_way.keys() | call.kinds.keys():
             start, kind = under_way.get(conn, (place, None))
@@ -72,28 +84,38 @@ def lane(conn, found, y, classes):
         height = HEIGHTS[kind]
         said = f"connection {conn}: {kind} after calls {start + 1} to {end}"
         box = bar(start, y + LANE - 2 - height, end - start, height, classes[kind], said)
-        yield f'<a href="#call-{start + 1}">{box}</a>'
+        yield link(start + 1, box)
 
 
-def marks(shown, y):
+def link(number, box):
+    """A part of the picture that goes to a call. The Tab key passes it by, since it would stop at hundreds."""
+    return f'<a href="#call-{number}" tabindex="-1">{box}</a>'
+
+
+def marked(call):
+    """What is marked of a call, and in what words: its answer, or the lines that its tick failed."""
+    failed = [line for line in call.block if line.startswith("failed ")]
+    return ("failed", ", ".join(failed)) if failed else (call.word, call.answer)
+
+
+def marks(shown):
     width = max(1, len(shown) / 500)
     for call in shown:
-        if call.word in MARKS:
-            box = bar(call.number - 1, y + MARKS[call.word], width, 4, f"mark {call.word}", f"call {call.number}: {call.answer}")
-            yield f'<a href="#call-{call.number}">{box}</a>'
+        word, said = marked(call)
+        if word in MARKS:
+            yield link(call.number, bar(call.number - 1, MARKS[word], width, 4, f"mark {word}", f"call {call.number}: {said}"))
 
 
 def picture(shown, classes):
-    """All calls side by side: a lane for each connection, and below them the refusals, divergences and failures."""
+    """All calls side by side: the refusals, divergences and failures, and below them a lane for each connection."""
     lanes = sorted(runs(shown).items())
-    parts, names = [], []
-    for place, (conn, found) in enumerate(lanes):
+    parts, names = list(marks(shown)), []
+    for place, (conn, found) in enumerate(lanes, 1):
         parts += lane(conn, found, LANE * place, classes)
         names.append(f"<li>connection {conn}</li>")
-    parts += marks(shown, LANE * len(lanes))
     height = LANE * (len(lanes) + 1)
     view = f'viewBox="0 0 {len(shown)} {height}" preserveAspectRatio="none" style="height:{height}px"'
     return (
         '<section class="overview" aria-label="all calls">\n'
-        f'<ul>{"".join(names)}<li class="marks">✗ ≠ !</li></ul>\n<svg {view} role="img">{"".join(parts)}</svg>\n</section>\n'
+        f'<ul><li class="marks">✗ ≠ !</li>{"".join(names)}</ul>\n<svg {view} role="img">{"".join(parts)}</svg>\n</section>\n'
     )

@@ -24,12 +24,15 @@
         }
         rows.forEach(function (cells) {
             var row = element("tr", null, made);
-            cells.forEach(function (text, i) { element(heads || i ? "td" : "th", text, row); });
+            cells.forEach(function (text, i) {
+                var cell = element(heads || i ? "td" : "th", null, row);
+                element(text.indexOf("\n") < 0 ? "span" : "pre", text, cell);
+            });
         });
     }
 
-    function part(parent, title) {
-        var made = element("div", null, parent);
+    function part(parent, title, kind) {
+        var made = element("div", null, parent, kind);
         element("h3", title, made);
         return made;
     }
@@ -59,11 +62,12 @@
         button(head, "next ›", number + 1);
         button(head, "next " + call.answer + " ›", next(number));
         var parts = element("div", null, panel, "parts");
-        table(part(parts, "It carries"), null, call.carries);
-        var put = part(parts, "It put out");
+        var own = element("div", null, parts);
+        table(part(own, "It carries"), null, call.carries);
+        var put = part(own, "It put out");
         if (!call.put.length) element("p", "nothing", put);
         call.put.forEach(function (text) { element("p", text, put); });
-        var store = part(parts, "The store after it");
+        var store = part(parts, "The store after it", "store");
         table(store, null, call.store);
         var heads = ["connection", "kind", "next", "due tokens", "held items", "held prints", "limit and times"];
         table(store, heads, call.lines.map(function (place) { return data.lines[place]; }), "lines");

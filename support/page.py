@@ -79,7 +79,9 @@ def lane_cell(call, before, conn, first, keys):
 def put_text(line, keys):
     """A record of the put-out book, or the report that stands above a tick's records."""
     if not line.startswith("put "):
-        return f'<p class="report {line.split()[0]}">{line}</p>'
+        word, conn = line.split()
+        sign = f"{SIGNS[word]} " if word in SIGNS else ""
+        return f'<p class="report {word}">{sign}{word}: connection {conn}</p>'
     _, conn, kind, number, key0, key1, message, times = line.split()
     head = {"s": "snapshot", "b": f"{number}", "p": f"print ×{times}"}[kind]
     key = "" if kind == "s" else f"<span>{key0} {key1}</span>"
@@ -131,8 +133,9 @@ def legend():
     kinds = "".join(f'<li class="{name}"><i>{kind}</i></li>' for kind, name in CLASSES.items())
     return (
         f'<ul class="legend" aria-label="kinds of a line after a call">{kinds}</ul>\n'
-        "<p>A lane shows the kind of its connection's line after each call, → where that changed. Below the lanes stands what each call put "
-        "out: book events by number, prints with how often they count, snapshots, and the connection whose message it is.</p>\n"
+        "<p>A lane shows the kind of its connection's line after each call, → where that changed. ✗ is a refusal, ≠ a divergence, ! a line that "
+        "failed. Below the lanes stands what each call put out: book events by number, prints with how often they count, snapshots, and the "
+        "connection whose message it is.</p>\n"
     )
 
 

@@ -34,21 +34,32 @@ class Stop(Exception):
 
 
 def arguments(words):
-    """The way to print, None where none is named, and the list's name, '-' for standard input."""
-    ways = [word for word in words if word in ("--bare", "--page")]
-    names = [word for word in words if word not in ways]
-    options = [name for name in names if name.startswith("-") and name != "-"]
-    typed = not names and (sys.stdin is None or sys.stdin.isatty())
-    if options or len(ways) > 1 or len(names) > 1 or typed:
-        raise Stop(2, __doc__)
-    return (ways or [None])[0], (names or ["-"])[0]
+    """The way to print, None where none is named, and the list's name, '-' for standard input. Behind '--' stand only names."""
+    end = words.index("--") if "--" in words else len(words)
+    options = [word for word in words[:end] if word.startswith("-") and word != "-"]
+    names = [word for word in words[:end] if word not in options] + words[end + 1 :]
+    strange = [option for option in options if option not in ("--bare", "--page")]
+    faults = [f"there is no option {calls.told(option)}" for option in strange]
+    if len(options) > 1 and not strange:
+        faults.append("one of --bare and --page")
+    if len(names) > 1:
+        faults.append(f"one list, and {len(names)} are named")
+    if not names and sys.stdin is not None and sys.stdin.isatty():
+        faults.append("no list is named, and none comes by standard input")
+    if faults:
+        raise Stop(2, f"{'; '.join(faults)}\n\n{__doc__}")
+    return (options or [None])[0], (names or ["-"])[0]
 
 
 def read(name):
     """A list's bytes, and what to call it."""
     try:
+        if name == "-" and sys.stdin is None:
+            raise Stop(2, "standard input is closed")
         if name == "-":
             return sys.stdin.buffer.read(), "standard input"
+        if not name:
+            raise Stop(2, "the list's name is empty")
         if Path(name).is_dir():
             raise Stop(1, f"{name} is a folder, and a list is a file")
         return Path(name).read_bytes(), Path(name).name
@@ -80,7 +91,7 @@ def ran(command, records):
 def answered(program, data, records):
     """What the program writes for the bytes of a list, and its answers, one for each record."""
     wrote = ran([program], data)
-    blocks = answers.blocks(wrote.decode("ascii"))
+    blocks = answers.blocks(wrote.decode("ascii", errors="replace"))
     if len(blocks) * calls.RECORD.size != len(records):
         raise Stop(3, f"{len(records) // calls.RECORD.size} calls, and {len(blocks)} answers were written")
     return wrote, blocks
@@ -94,6 +105,8 @@ def write(data):
 
 
 def main():
+    if sys.stdout is None:
+        raise Stop(3, "standard output is closed")
     way, name = arguments(sys.argv[1:])
     data, called = read(name)
     records, wrong = records_of(data, called)
@@ -106,7 +119,7 @@ def main():
         shown = wrote
     elif way == "--page":
         readings = answers.readings(ran([build.readings()], records), blocks)
-        shown = page.page(called, records, blocks, readings, wrong).encode()
+        shown = page.page(called, records, blocks, readings, wrong).encode(errors="replace")
     else:
         shown = answers.listing(calls.lines(records), blocks).encode()
     write(shown)
@@ -127,5 +140,5 @@ except BrokenPipeError:
     # a reader that has enough, such as head
     sys.exit(3)
 except OSError as e:
-    print(f"replay: {e.strerror}", file=sys.stderr)
+    print(f"replay: {e.filename}: {e.strerror}" if e.filename else f"replay: {e.strerror}", file=sys.stderr)
     sys.exit(3)

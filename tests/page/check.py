@@ -13,6 +13,8 @@ EMPTY = {"meta"}
 CLASSES = {"Waiting": "kind-waiting", "Pending": "kind-pending", "In line": "kind-in-line", "Failed": "kind-failed", "none": "kind-none"}
 ANSWER = re.compile(r"(done|apply|duplicate|held|ignored|diverged|failed|kept|gone|rebuild|refused [0-9]+)")
 KINDS = {"s": "snapshot", "b": "book", "p": "print"}
+# answers and reports that are marked
+SIGNS = {"refused": "✗ ", "diverged": "≠ ", "failed": "! "}
 
 
 class Element:
@@ -101,11 +103,21 @@ def blocks(answers):
 def record_words(line):
     """A record or report as the page has it."""
     if not line.startswith("put "):
-        return line
+        word, conn = line.split()
+        return f"{SIGNS.get(word, '')}{word}: connection {conn}"
     _, conn, kind, number, key0, key1, message, times = line.split()
     head = {"s": "snapshot", "b": number, "p": f"print ×{times}"}[kind]
     key = "" if kind == "s" else f" {key0} {key1}"
     return f"{head} from {conn}{key} message {message}"
+
+
+def list_words(line):
+    """A record or report in the words of a list, as the panel has it."""
+    if not line.startswith("put "):
+        return line
+    _, conn, kind, number, key0, key1, message, times = line.split()
+    key, rest = {"s": ("", ""), "b": (f" {key0} {key1}", f" number {number}"), "p": (f" {key0} {key1}", f" times {times}")}[kind]
+    return f"put {KINDS[kind]} {conn}{key} message {message}{rest}"
 
 
 def columns(page):
@@ -133,8 +145,9 @@ def one_call(number, call, block, reading, cells):
     expect(row.children()[0].words() == head, f"{at} stands in the lane '{row.children()[0].words()}' and not '{head}'")
     expect(box.given["id"] == f"call-{number}", f"{at} has the id {box.given['id']}")
     carried = " ".join([words[0]] + (words[1:-2] if alike else words[2:-2]))
-    shown = re.sub("[✗≠!] ", "", box.words())
-    expect(shown == f"{carried} {block[0]}".replace("  ", " "), f"{at} shows '{shown}'")
+    answer = block[0].split()[0]
+    expect(box.words() == f"{carried} {SIGNS.get(answer, '')}{block[0]}", f"{at} shows '{box.words()}'")
+    expect(box.given["class"] == f"call {answer}", f"{at} has the class {box.given['class']}")
     lines = {str(line["conn"]): line["kind"] for line in reading["lines"]}
     lanes = {row.children()[0].words().split()[1]: cell for row, cell in cells if row.given["class"] == "lane"}
     expect(lines.keys() <= lanes.keys(), f"{at}: a lane is absent")
@@ -149,45 +162,81 @@ def one_call(number, call, block, reading, cells):
     expect(puts == [record_words(line) for line in block[1:]], f"{at} put out {block[1:]}, and the page has {puts}")
 
 
+def carried(call):
+    """What a call carries, as the panel has it."""
+    word, *rest = call.split()
+    named = dict(zip(rest, rest[1:]))
+    pairs = [] if word in ("promote", "reset", "tick") else [["connection", rest[0]]]
+    if word in ("book", "print"):
+        pairs.append(["key", f"{rest[1]} {rest[2]}"])
+    for name, shown in (("token", "token"), ("view", "view answer of all lines"), ("message", "message"), ("at", "time")):
+        if name in named:
+            pairs.append([shown, named[name]])
+    return pairs
+
+
+def store(call, reading):
+    base, end, counts = reading["base"], reading["end"], reading["counts"]
+    last = "never" if reading["last"] is None else f"at {reading['last']}"
+    rows = [
+        ["log", f"base {base}, end {end}, events {end - base}; last applied {last}"],
+        ["print tables", f"keys {reading['keys']}, counts {reading['pairs']}"],
+    ]
+    if counts:
+        delivered = ", ".join(f"{count} by connection {conn}" for conn, count in counts["delivered"]) or "none"
+        rows.append(["counts of its key", f"applied {counts['applied']}; delivered {delivered}; touched at {counts['touched']}"])
+    elif call.startswith("print "):
+        rows.append(["counts of its key", "none"])
+    return rows
+
+
+def held(entries):
+    """Held items, of four numbers or three and null, or prints, of three numbers."""
+    rows = []
+    for *front, message in entries:
+        token, *key = front if len(front) == 3 else (None, *front)
+        what = " ".join(map(str, key)) if token is None else f"snapshot {token}"
+        rows.append(f"{what} message {message}")
+    return "\n".join([str(len(rows)), *rows])
+
+
+def line_row(line):
+    due = {0: "none", 1: "token ", 2: "tokens "}[len(line["due"])] + " and ".join(map(str, line["due"]))
+    rest = [f"limit {line['limit']}"]
+    rest += [f"{name} {line[of]}" for name, of in (("since", "since"), ("snapshot at", "snapshot")) if line[of] is not None]
+    following = ["", ""] if line["next"] is None else [str(line["next"]), due]
+    return [str(line["conn"]), line["kind"], *following, held(line["items"]), held(line["prints"]), ", ".join(rest)]
+
+
 def pointed_at(number, call, block, reading, data):
     """What is shown of a call that is pointed at."""
     entry = data["calls"][number - 1]
     at = f"call {number}, pointed at"
     expect(entry["call"] == call and entry["answer"] == block[0], f"{at}: {entry['call']}, {entry['answer']}")
-    carried = {word for _, value in entry["carries"] for word in value.split()}
-    expect({word for word in call.split() if word.isdigit()} == carried, f"{at} carries {entry['carries']}")
-    expect(len(entry["put"]) == len(block) - 1, f"{at}: {entry['put']}")
-    store = dict(entry["store"])
-    base, end = reading["base"], reading["end"]
-    expect(store["log"].startswith(f"base {base}, end {end}, events {end - base};"), f"{at}: log {store['log']}")
-    expect(store["print tables"] == f"keys {reading['keys']}, counts {reading['pairs']}", f"{at}: {store['print tables']}")
-    counts, said = reading["counts"], store.get("counts of its key")
-    expect((said is None) == (counts is None), f"{at}: counts {said}")
-    if counts:
-        delivered = ", ".join(f"{count} by connection {conn}" for conn, count in counts["delivered"]) or "none"
-        expect(said.startswith(f"applied {counts['applied']}; delivered {delivered}; "), f"{at}: counts {said}")
+    expect(bool(entry["why"]) == block[0].startswith("refused "), f"{at}: {entry['answer']}: {entry['why']}")
+    expect(entry["carries"] == carried(call), f"{at} carries {entry['carries']}")
+    expect(entry["put"] == [list_words(line) for line in block[1:]], f"{at}: {entry['put']}")
+    expect(entry["store"] == store(call, reading), f"{at}: the store {entry['store']}")
     rows = [data["lines"][place] for place in entry["lines"]]
-    expect(len(rows) == len(reading["lines"]), f"{at}: {len(rows)} lines")
-    for row, line in zip(rows, reading["lines"]):
-        one_line(at, row, line)
+    expect(rows == [line_row(line) for line in reading["lines"]], f"{at}: the lines {rows}")
 
 
-def one_line(at, row, line):
-    conn, kind, following, due, items, prints, rest = row
-    expect((conn, kind) == (str(line["conn"]), line["kind"]), f"{at}: {row}")
-    expect(following == ("" if line["next"] is None else str(line["next"])), f"{at}: next {following}")
-    if kind == "In line":
-        expect(due == (" and ".join(map(str, line["due"])) or "none"), f"{at}: due {due}")
-    for said, held in ((items, line["items"]), (prints, line["prints"])):
-        expect(int(said.split(":")[0]) == len(held), f"{at}: holds {said}")
-        messages = re.findall("message ([0-9]+)", said)
-        expect(messages == [str(entry[-1]) for entry in held], f"{at}: holds {said}")
-    expect(rest.startswith(f"limit {line['limit']}"), f"{at}: {rest}")
+def marks(answers):
+    """The refusals, divergences and failures, those of a tick's lines among them, as the picture names them, and their classes."""
+    for number, block in enumerate(answers, 1):
+        failed = [line for line in block[1:] if line.startswith("failed ")]
+        word = "failed" if failed else block[0].split()[0]
+        if word in SIGNS:
+            yield f"call {number}: {', '.join(failed) or block[0]}", f"mark {word}"
 
 
-def overview(page, answers, readings):
-    """The picture of all calls: the kind of each line after each call, and the refusals, divergences and failures."""
+def overview(page, calls, answers, readings):
+    """The picture of all calls: a lane for each connection with the kind of its line after each call, and the marks."""
     drawn, marked = {}, []
+    names = [name.words() for part in page.find("section", "overview") for name in part.find("li")]
+    conns = {int(call.split()[1]) for call in calls if call.split()[0] not in ("promote", "reset", "tick")}
+    conns |= {line["conn"] for reading in readings for line in reading["lines"]}
+    expect(names[1:] == [f"connection {conn}" for conn in sorted(conns)], f"the picture has the lanes {names}")
     for rect in (rect for part in page.find("section", "overview") for rect in part.find("rect")):
         said = re.fullmatch("connection ([0-9]+): (.*) after calls ([0-9]+) to ([0-9]+)", rect.words())
         if said:
@@ -197,11 +246,10 @@ def overview(page, answers, readings):
             expect(place == (int(first) - 1, int(last) - int(first) + 1), f"the picture draws {rect.words()} at {place}")
             drawn.update({(number, conn): kind for number in range(int(first), int(last) + 1)})
         else:
-            marked.append(rect.words())
+            marked.append((rect.words(), rect.given["class"]))
     kinds = {(number, str(line["conn"])): line["kind"] for number, reading in enumerate(readings, 1) for line in reading["lines"]}
     expect(drawn == kinds, "the picture has other kinds than the readings")
-    marks = [f"call {number}: {block[0]}" for number, block in enumerate(answers, 1) if block[0].split()[0] in ("refused", "diverged", "failed")]
-    expect(marked == marks, f"the picture marks {marked}")
+    expect(marked == list(marks(answers)), f"the picture marks {marked}")
 
 
 def check(text, calls, answers, readings):
@@ -214,7 +262,7 @@ def check(text, calls, answers, readings):
     data = json.loads(next(part for part in page.find("script") if part.given.get("id") == "data").text())
     expect(len(data["calls"]) == len(calls), f"{len(calls)} calls, and the data has {len(data['calls'])}")
     if len(calls) > 10:
-        overview(page, answers, readings)
+        overview(page, calls, answers, readings)
     for number, parts in enumerate(zip(calls, answers, readings), 1):
         one_call(number, *parts, found[number - 1])
         pointed_at(number, *parts, data)
