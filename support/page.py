@@ -151,12 +151,12 @@ def page(name, records, blocks, readings, wrong):
         [
             f'<!DOCTYPE html>\n<html lang="en">\n<head>\n<meta charset="utf-8">\n<title>{title}</title>\n',
             '<meta name="viewport" content="width=device-width">\n',
-            f"<style>\n{(beside / 'page.css').read_text()}</style>\n<style id=\"same\"></style>\n</head>\n<body>\n",
+            f"<style>\n{(beside / 'page.css').read_text(encoding='utf-8')}</style>\n<style id=\"same\"></style>\n</head>\n<body>\n",
             f"<header>\n<h1>{title}</h1>\n{overview.summary(shown)}{legend()}\n</header>\n",
             overview.picture(shown, CLASSES) if len(shown) > STRIP else "",
             f"<main>\n{''.join(strips(shown))}{bad}</main>\n",
             '<aside id="panel" aria-live="polite"></aside>\n',
             f'<script type="application/json" id="data">{data.text(shown)}</script>\n',
-            f"<script>\n{(beside / 'page.js').read_text()}</script>\n</body>\n</html>\n",
+            f"<script>\n{(beside / 'page.js').read_text(encoding='utf-8')}</script>\n</body>\n</html>\n",
         ]
     )
